@@ -1,0 +1,16 @@
+pub mod Needed
+pub mod Agree
+pub mod Kept
+pub mod Named
+pub mod Fine
+pub mod Numbers
+pub mod Blocks
+pub mod Others
+pub mod Ticks
+pub mod Asks
+pub mod Safe
+pub mod Histories
+pub mod Untouched
+pub mod Effects
+pub mod Bridge
+pub mod Games

@@ -1,0 +1,4 @@
+pub mod Changed
+pub mod Between
+pub mod OwnLemmas
+pub mod Whole

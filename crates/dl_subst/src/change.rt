@@ -1,0 +1,143 @@
+//! The four changes, and the names that are bound around a place.
+
+ghost use Rattle.std.specs.Prelude.{◌≡◌};
+ghost use Rattle.dl_subst.specs.Code.{change_of, variables_of, messages_of, new_of};
+ghost use Rattle.dl_subst.specs.Substitution.{new_part};
+
+use crate::message::NewMessage;
+use dl_term::{Lab, Part, Term, message_in, same_term, variable_in};
+
+/// What is put where.
+#[derive(Clone, Copy)]
+pub(crate) enum Change<'a> {
+    /// A term for a variable.
+    ForVariable(u32, &'a Term),
+    /// Terms for the parts of a message.
+    ForMessage(u32, &'a NewMessage),
+    /// A term, the second, for another one.
+    ForTerm(&'a Term, &'a Term),
+    /// A label for `self`.
+    ForOwn(u8),
+}
+
+/// What comes in a term's place.
+#[derive(Clone, Copy)]
+pub(crate) enum Place<'a> {
+    /// The term stays, and its parts are looked at.
+    Kept,
+    New(&'a Term),
+    /// The number 0, for an argument that a message lacks.
+    Zero,
+}
+
+/// The names that quantifiers bind around a place, from the innermost.
+#[derive(Clone, Copy)]
+pub(crate) enum Around<'a> {
+    Nothing,
+    Variable(&'a Around<'a>, u32),
+    Message(&'a Around<'a>, u32),
+}
+
+/// What the change puts in this term's place.
+#[tactic(auto, unfolding(dl_term::specs::Syntax::opened))]
+pub(crate) fn put_at<'a>(change: &Change<'a>, term: &Term) -> Place<'a>
+    ensures { new_of result ≡ (change_of change.now).put term.now }
+{
+    match change {
+        Change::ForVariable(sym, new) => match term {
+            Term::Var(name) => if *name == *sym {
+                Place::New(*new)
+            } else {
+                Place::Kept
+            },
+            _ => Place::Kept,
+        },
+        Change::ForMessage(msg, new) => match term {
+            Term::Msg { msg: name, part } => {
+                if *name == *msg {
+                    part_of(*new, *part)
+                } else {
+                    Place::Kept
+                }
+            }
+            _ => Place::Kept,
+        },
+        Change::ForTerm(old, new) => {
+            if same_term(term, *old) {
+                Place::New(*new)
+            } else {
+                Place::Kept
+            }
+        }
+        Change::ForOwn(_) => Place::Kept,
+    }
+}
+
+fn part_of<'a>(new: &'a NewMessage, part: Part) -> Place<'a>
+    ensures { new_of result ≡ Some (new_part new.now part) }
+{
+    match part {
+        Part::Id => Place::New(&new.id),
+        Part::From => Place::New(&new.from),
+        Part::To => Place::New(&new.to),
+        Part::Live => Place::New(&new.live),
+        Part::Arg(at) => match new.args.get(usize::from(at)) {
+            Some(term) => Place::New(term),
+            None => Place::Zero,
+        },
+    }
+}
+
+/// The label that the change writes for this one.
+pub(crate) fn label(change: &Change, label: Lab) -> Lab
+    ensures { result ≡ (change_of change.now).label label }
+{
+    match (change, label) {
+        (Change::ForOwn(own), Lab::Own) => Lab::At(*own),
+        _ => label,
+    }
+}
+
+/// Whether nothing is changed below a quantifier over nodes that binds this name.
+pub(crate) fn stops_at_variable(change: &Change, sym: u32) -> bool
+    ensures { result ≡ (change_of change.now).stops_at_variable sym }
+{
+    match change {
+        Change::ForVariable(name, _) => sym == *name,
+        Change::ForTerm(old, _) => variable_in(*old, sym),
+        Change::ForMessage(_, _) | Change::ForOwn(_) => false,
+    }
+}
+
+/// Whether nothing is changed below a quantifier over messages that binds this name.
+pub(crate) fn stops_at_message(change: &Change, msg: u32) -> bool
+    ensures { result ≡ (change_of change.now).stops_at_message msg }
+{
+    match change {
+        Change::ForMessage(name, _) => msg == *name,
+        Change::ForTerm(old, _) => message_in(*old, msg),
+        Change::ForVariable(_, _) | Change::ForOwn(_) => false,
+    }
+}
+
+/// Whether a quantifier around binds this variable.
+pub(crate) fn binds_variable(around: &Around, sym: u32) -> bool
+    ensures { result ≡ variables_of around.now sym }
+{
+    match around {
+        Around::Nothing => false,
+        Around::Variable(outer, name) => sym == *name || binds_variable(outer, sym),
+        Around::Message(outer, _) => binds_variable(outer, sym),
+    }
+}
+
+/// Whether a quantifier around binds this message.
+pub(crate) fn binds_message(around: &Around, msg: u32) -> bool
+    ensures { result ≡ messages_of around.now msg }
+{
+    match around {
+        Around::Nothing => false,
+        Around::Variable(outer, _) => binds_message(outer, msg),
+        Around::Message(outer, name) => msg == *name || binds_message(outer, msg),
+    }
+}

@@ -1,0 +1,10 @@
+pub mod Faults
+pub mod Layout
+pub mod Lexeme
+pub mod Lines
+pub mod Parts
+pub mod Reading
+pub mod Spelling
+pub mod Text
+pub mod TreePlace
+pub mod Word
