@@ -1,0 +1,12 @@
+pub mod Truth
+pub mod Whole
+pub mod Widths
+pub mod Parts
+pub mod Sums
+pub mod Checks
+pub mod Sound
+pub mod Reading
+pub mod Walks
+pub mod Linear
+pub mod Atoms
+pub mod LineLemmas
