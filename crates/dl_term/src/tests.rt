@@ -1,8 +1,9 @@
 //! Values at the edges of their ranges, and quantifiers over a small state.
 
 ghost use Rattle.std.specs.Prelude.{◌≡◌, ◌∷◌, [], pos, negsuc, true, false, IfOk};
+ghost use Rattle.dl_term.specs.Measures.{IsNarrow};
 ghost use Rattle.dl_term.specs.State.{item};
-ghost use Rattle.dl_term.specs.declared.syntax.Term.{Num, Var, Msg, Field};
+ghost use Rattle.dl_term.specs.declared.syntax.Term.{Num, Var, Msg, Mul, Field};
 ghost use Rattle.dl_term.specs.declared.syntax.Formula.{Eq, Lt, All, Exists, Each, Any};
 
 use crate::{DEEPEST_NESTING, Env, Formula, Lab, Part, Term, View};
@@ -91,6 +92,54 @@ fn boxed(alloc: Global, term: Term) -> Result<Boxed<Term>, AllocError>
     ensures { IfOk result (λ made. made ≡ term) }
 {
     Boxed::new(alloc, term)
+}
+
+#[tactic(auto, unfolding(crate::specs::Syntax::opened))]
+fn product(alloc: Global, left: i64, right: i64) -> Result<Boxed<Term>, AllocError>
+    ensures { IfOk result (λ made. made ≡ Mul (Num left) (Num right)) }
+{
+    let left = boxed(alloc, Term::Num(left))?;
+    let right = boxed(alloc, Term::Num(right))?;
+    boxed(alloc, Term::Mul(left, right))
+}
+
+// 2^126 - (2^63 - 2^126), a value just below 2^127.
+#[tactic(auto, unfolding(crate::specs::Syntax::opened))]
+fn widest(alloc: Global) -> Result<Term, AllocError>
+    ensures { IfOk result (λ made. IsNarrow made) }
+{
+    let square = product(alloc, i64::MIN, i64::MIN)?;
+    let mixed = product(alloc, i64::MIN, i64::MAX)?;
+    Ok(Term::Sub(square, mixed))
+}
+
+#[test]
+fn values_at_the_edges(rt: HostRuntime) -> Result<(), Fail> {
+    let widest = widest(rt.alloc())?;
+    assert_eq!(rt;
+        crate::magnitude(&widest),
+        170141183460469231722463931679029329920
+    );
+    assert_eq!(rt;
+        crate::value(&widest, &Env::Empty(0), &Sample),
+        170141183460469231722463931679029329920
+    );
+    Ok(())
+}
+
+#[test]
+fn magnitudes_at_the_edges(rt: HostRuntime) -> Result<(), Fail> {
+    let alloc = rt.alloc();
+    assert_eq!(rt; crate::magnitude(&Term::Num(i64::MIN)), 9223372036854775808);
+    let square = product(alloc, i64::MIN, i64::MIN)?;
+    let wide = Term::Add(square, product(alloc, i64::MIN, i64::MIN)?);
+    assert_eq!(rt;
+        crate::magnitude(&wide),
+        170141183460469231731687303715884105728
+    );
+    let wider = Term::Mul(boxed(alloc, wide)?, product(alloc, i64::MIN, i64::MIN)?);
+    assert_eq!(rt; crate::magnitude(&wider), u128::MAX);
+    Ok(())
 }
 
 #[tactic(auto, unfolding(crate::specs::Syntax::opened))]
