@@ -1,5 +1,5 @@
 -- Lists of entries, each with the number of the seat whose turn made it.
-use Rattle.std.specs.Prelude.{◌≡◌, ℕ, ◌==◌, List, [], ◌++◌, length, take, filter}
+use Rattle.std.specs.Prelude.{◌≡◌, ℕ, ◌==◌, List, [], ◌∷◌, ◌++◌, length, take, filter}
 
 -- the list begins with this prefix
 abbrev pub StartsWith : {A : Type 0} → List A → List A → Type 0
@@ -14,3 +14,7 @@ pub record GrownByOthers {I : Type 0} (number : ℕ) (seen log : List (ℕ × I)
   pub added : List (ℕ × I)
   pub begins : log ≡ seen ++ added
   pub others : entries_of number added ≡ []
+
+-- one entry of this number is added at the end, and the ground stays
+abbrev pub AddsOne : {T I G : Type 0} → (T → List (ℕ × I)) → (T → G) → ℕ → T → T → Type 0
+AddsOne {T} {I} {G} entries base_of number old new = (item : I) × (entries new ≡ entries old ++ (number, item) ∷ []) × (base_of new ≡ base_of old)

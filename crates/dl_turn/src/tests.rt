@@ -66,7 +66,21 @@ fn append<R: Wait + Abort>(rt: &R, lock: &Turn<Log>, seat: &mut Seat<Log>, item:
     lock.leave(seat, held);
 }
 
-// Turns with the items 0, 1, 2 and so on.
+// The same in one call.
+fn append_at_once<R: Wait + Abort>(rt: &R, lock: &Turn<Log>, seat: &mut Seat<Log>, item: u32)
+    requires of { IsOf lock.now seat.old }
+    requires out { IsOut seat.old }
+    ensures seat { IsSameSeat seat.old seat.new }
+    ensures out { IsOut seat.new }
+    ensures own { length (own_of seat.new) ≡ length (own_of seat.old) + 1 }
+{
+    lock.take_turn(rt, seat, |number, mut log| {
+        log.add(rt, number, item);
+        log
+    });
+}
+
+// Turns with the items 0, 1, 2 and so on, by both ways of taking one.
 fn append_many<R: Wait + Abort>(rt: &R, lock: &Turn<Log>, seat: &mut Seat<Log>, count: u32)
     requires of { IsOf lock.now seat.old }
     requires out { IsOut seat.old }
@@ -75,7 +89,11 @@ fn append_many<R: Wait + Abort>(rt: &R, lock: &Turn<Log>, seat: &mut Seat<Log>, 
     ensures own { length (own_of seat.new) ≡ length (own_of seat.old) + count }
 {
     for item in 0..count {
-        append(rt, lock, seat, item);
+        if item % 2 == 0 {
+            append(rt, lock, seat, item);
+        } else {
+            append_at_once(rt, lock, seat, item);
+        }
     }
 }
 

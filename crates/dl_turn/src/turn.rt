@@ -1,6 +1,6 @@
 //! The lock and its seats.
 ghost use Rattle.std.specs.Prelude.{◌≡◌, ◌≢◌, ◌++◌, ◌∷◌, [], true, false, None, Some, ◌^◌, ◌%◌};
-ghost use Rattle.dl_turn.specs.Lists.{StartsWith, GrownByOthers, entries_of};
+ghost use Rattle.dl_turn.specs.Lists.{StartsWith, GrownByOthers, AddsOne, entries_of};
 ghost use Rattle.dl_turn.specs.Views.{drew, entered, looked, advanced};
 ghost use Rattle.dl_turn.specs.Held.{value_in};
 ghost use Rattle.dl_turn.specs.Seats.{number_of, seen_by, own_of, KnowsGround, IsOf, IsOut, IsInside, IsSameSeat};
@@ -136,6 +136,31 @@ impl<T: Book> Turn<T> {
     {
         self.put_back(&mut seat.token, held);
         self.advance(&mut seat.token);
+    }
+
+    /// Takes one whole turn: enters, hands the value and the seat's number to `act`, and leaves with
+    /// what `act` makes of the value.
+    ///
+    /// `act` adds one entry of this number at the end of the list and keeps the ground (`adds`). What
+    /// the seat had seen is a prefix of what it has seen now (`begins`), which is the list of what `act`
+    /// answered (`acted`), and its own entries are those that it had and that one (`own`).
+    ///
+    /// This call may wait, as [`enter`](Turn::enter) may. It takes no memory of its own.
+    pub fn take_turn<R: Wait, F: FnOnce(u32, T) -> T>(&self, rt: &R, seat: &mut Seat<T>, act: F)
+        requires of { IsOf self.now seat.old }
+        requires out { IsOut seat.old }
+        requires may { (value : T) → F.pre act (number_of seat.old) value }
+        requires adds { (value : T) (new : T) → F.post act (number_of seat.old) value new → AddsOne T.entries T.ground (number_of seat.old) value new }
+        ensures seat { IsSameSeat seat.old seat.new }
+        ensures out { IsOut seat.new }
+        ensures begins { StartsWith (seen_by seat.new) (seen_by seat.old) }
+        ensures own { (item : T.Item) × (own_of seat.new ≡ own_of seat.old ++ (number_of seat.old, item) ∷ []) }
+        ensures acted { (value : T) × (new : T) × F.post act (number_of seat.old) value new × (seen_by seat.new ≡ T.entries new) }
+    {
+        let number = seat.number();
+        let Held { value } = self.enter(rt, seat);
+        let value = act(number, value);
+        self.leave(seat, Held { value });
     }
 }
 
