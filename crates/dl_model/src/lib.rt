@@ -4,6 +4,7 @@
 //! events, runs, and when a run is safe. Nothing here knows of obligations, scripts or backward steps.
 #![tactic(auto)]
 
+mod copy;
 mod file;
 mod history;
 mod laws;
