@@ -1,0 +1,5 @@
+pub mod Says
+pub mod ReduceLemmas
+pub mod ReadLemmas
+pub mod Sound
+pub mod Replayed

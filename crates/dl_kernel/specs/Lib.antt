@@ -1,0 +1,7 @@
+pub mod Parts
+pub mod Reduced
+pub mod Lines
+pub mod Steps
+pub mod Outcome
+pub mod Opened
+pub mod Examples

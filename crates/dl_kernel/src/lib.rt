@@ -1,0 +1,13 @@
+//! The rules of proof, and what a script of them proves.
+//!
+//! The folder `specs` says for each rule its condition and the sequents that it leaves, and which rule of a script is
+//! the first one that is refused. A sequent is valid where none of its script's rules is.
+#![tactic(auto)]
+
+mod fault;
+mod laws;
+mod parts;
+
+pub use fault::KernelFault;
+pub use laws::{rules_compute, scripts_prove};
+pub use parts::{Equation, Quantified, Two};

@@ -1,0 +1,4 @@
+pub mod Bounded
+pub mod Facts
+pub mod Scoped
+pub mod Follows
