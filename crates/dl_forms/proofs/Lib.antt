@@ -1,0 +1,16 @@
+pub mod FaultLemmas
+pub mod NameLemmas
+pub mod TermLemmas
+pub mod LabelLemmas
+pub mod WidthLemmas
+pub mod FormulaLemmas
+pub mod FieldLemmas
+pub mod GetLemmas
+pub mod TagLemmas
+pub mod PartLemmas
+pub mod RowLemmas
+pub mod MessageLemmas
+pub mod TakenLemmas
+pub mod TableLemmas
+pub mod NamingLemmas
+pub mod SteadyLemmas

@@ -1,0 +1,14 @@
+pub mod Form
+pub mod Notation
+pub mod Context
+pub mod Table
+pub mod Width
+pub mod Judge
+pub mod Parts
+pub mod Scope
+pub mod Show
+pub mod Known
+pub mod Word
+pub mod Read
+pub mod Naming
+pub mod Numbered

@@ -1,0 +1,97 @@
+//! The words that forms begin with.
+
+ghost use Rattle.std.specs.Prelude.{◌≡◌};
+ghost use Rattle.dl_forms.specs.Form.{head_of, head_named};
+
+use crate::names::is;
+use dl_tree::{Name, Tree};
+
+/// The word that a form begins with.
+#[derive(Clone, Copy, Debug, Drop, PartialEq, Eq)]
+pub(crate) enum Head {
+    Get,
+    Len,
+    Id,
+    From,
+    To,
+    Live,
+    Arg,
+    Add,
+    Sub,
+    Mul,
+    If,
+    Eq,
+    Lt,
+    Le,
+    Not,
+    And,
+    Or,
+    Implies,
+    All,
+    Some,
+    Each,
+    Any,
+    Other,
+}
+
+#[tactic(auto, unfolding(crate::specs::Form::head_named))]
+fn head_named(name: &Name) -> Head
+    ensures { result ≡ head_named name.now }
+{
+    if is(name, b"get") {
+        Head::Get
+    } else if is(name, b"len") {
+        Head::Len
+    } else if is(name, b"id") {
+        Head::Id
+    } else if is(name, b"from") {
+        Head::From
+    } else if is(name, b"to") {
+        Head::To
+    } else if is(name, b"live") {
+        Head::Live
+    } else if is(name, b"arg") {
+        Head::Arg
+    } else if is(name, b"+") {
+        Head::Add
+    } else if is(name, b"-") {
+        Head::Sub
+    } else if is(name, b"*") {
+        Head::Mul
+    } else if is(name, b"if") {
+        Head::If
+    } else if is(name, b"=") {
+        Head::Eq
+    } else if is(name, b"<") {
+        Head::Lt
+    } else if is(name, b"<=") {
+        Head::Le
+    } else if is(name, b"not") {
+        Head::Not
+    } else if is(name, b"and") {
+        Head::And
+    } else if is(name, b"or") {
+        Head::Or
+    } else if is(name, b"implies") {
+        Head::Implies
+    } else if is(name, b"all") {
+        Head::All
+    } else if is(name, b"some") {
+        Head::Some
+    } else if is(name, b"each") {
+        Head::Each
+    } else if is(name, b"any") {
+        Head::Any
+    } else {
+        Head::Other
+    }
+}
+
+pub(crate) fn head_of(tree: &Tree) -> Head
+    ensures { result ≡ head_of tree.now }
+{
+    match tree {
+        Tree::Sym { name, .. } => head_named(name),
+        _ => Head::Other,
+    }
+}
