@@ -1,0 +1,8 @@
+//! What the program may be asked to do.
+
+/// What the program is asked to do.
+#[derive(Clone, Copy, Debug, Drop, PartialEq, Eq)]
+pub enum Command {
+    /// Check the text that the source gives.
+    Check,
+}
