@@ -25,3 +25,6 @@ pub use scope::{Marks, Scope, SortDecl};
 pub use show::{show_formula, show_term};
 pub use table::Names;
 pub use taken::is_taken_for_others;
+
+#[cfg(test)]
+mod tests;

@@ -1,5 +1,5 @@
 -- Sequents with scripts that prove them, and with scripts whose first rule fails, for each rule.
-use Rattle.std.specs.Prelude.{◌≡◌, ℕ, ℤ, pos, false, Option, Some, None, List, [], ◌∷◌}
+use Rattle.std.specs.Prelude.{◌≡◌, ℕ, ℤ, pos, false, Some, None, List, [], ◌∷◌}
 use Rattle.dl_term.specs.declared.syntax.Lab.TheVariants.{At}
 use Rattle.dl_term.specs.declared.syntax.Part.TheVariants as part
 use Rattle.dl_term.specs.declared.syntax.Sort.{Sort}
@@ -10,8 +10,7 @@ use Rattle.dl_model.specs.declared.protocol.Protocol.{Protocol}
 use Rattle.dl_model.specs.declared.protocol.Instances.{Instances}
 use Rattle.dl_model.specs.declared.sequent.Hypothesis.{Hypothesis}
 use Rattle.dl_model.specs.declared.sequent.Sequent.{Sequent}
-use Rattle.dl_linear.specs.declared.certificate.Certificate.{Certificate, Use, Sum, Div}
-use Rattle.dl_linear.specs.declared.certificate.Multiple.{Multiple}
+use Rattle.dl_linear.specs.declared.certificate.Certificate.{Use, Sum, Div}
 use Rattle.dl_sequent.specs.declared.script.Given.TheVariants.{Node, Message}
 use Rattle.dl_sequent.specs.declared.script.Script.{Script}
 use Rattle.dl_sequent.specs.declared.script.Rule.{Rule, By, Close, Split, Pick, Intro, Open, Give, Parts, Cases, Apply, Inst, Unpack, Have, Decide, Rewrite, Reduce, Range, Linear}

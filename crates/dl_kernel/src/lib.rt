@@ -9,5 +9,5 @@ mod laws;
 mod parts;
 
 pub use fault::KernelFault;
-pub use laws::{rules_compute, scripts_prove};
+pub use laws::{nothing_is_captured, rules_compute, scripts_prove};
 pub use parts::{Equation, Quantified, Two};

@@ -201,3 +201,12 @@ fn part_in(id: u32, message: &Message, part: Part) -> i64
         },
     }
 }
+
+fn crosses<S: Send + Sync>(_value: &S) {}
+
+// A state and its shape may cross threads, and threads may share them.
+fn crosses_threads(world: &WorldState, shape: &Shape, message: &Message) {
+    crosses(world);
+    crosses(shape);
+    crosses(message);
+}

@@ -24,7 +24,7 @@ pub record Unbound (variable message : ℕ → Bool) (new base : Names) : Type 0
   pub numbers : (z : ℕ) → variable z ≡ false → new.number z ≡ base.number z
   pub messages : (k : ℕ) → message k ≡ false → new.message k ≡ base.message k
 
-value-unbound : (u : Term) (v m : ℕ → Bool) (new base : Names) (state : State) → Unbound v m new base → mentions v m u ≡ false → value u new state ≡ value u base state
+pub value-unbound : (u : Term) (v m : ℕ → Bool) (new base : Names) (state : State) → Unbound v m new base → mentions v m u ≡ false → value u new state ≡ value u base state
 value-unbound (Num n) v m new base state h clear = refl
 value-unbound (Word x n) v m new base state h clear = refl
 value-unbound (Var x) v m new base state h clear = h.numbers x clear
@@ -62,14 +62,14 @@ not-bound : {X : Type 0} (test rest : Bool) (k a b : X) → (test || rest) ≡ f
 not-bound true rest k a b clear h = cc
 not-bound false rest k a b clear h = h clear
 
-Unbound-number : (v m : ℕ → Bool) (new base : Names) → Unbound v m new base → (x : ℕ) (k : ℤ) → Unbound (and_name x v) m (with_number new x k) base
+pub Unbound-number : (v m : ℕ → Bool) (new base : Names) → Unbound v m new base → (x : ℕ) (k : ℤ) → Unbound (and_name x v) m (with_number new x k) base
 Unbound-number v m new base h x k = record {
   own = h.own;
   numbers = λ z clear. not-bound (z == x) (v z) k (new.number z) (base.number z) clear (h.numbers z);
   messages = h.messages;
 }
 
-Unbound-message : (v m : ℕ → Bool) (new base : Names) → Unbound v m new base → (n : ℕ) (meant : Meant) → Unbound v (and_name n m) (with_message new n meant) base
+pub Unbound-message : (v m : ℕ → Bool) (new base : Names) → Unbound v m new base → (n : ℕ) (meant : Meant) → Unbound v (and_name n m) (with_message new n meant) base
 Unbound-message v m new base h n meant = record {
   own = h.own;
   numbers = h.numbers;

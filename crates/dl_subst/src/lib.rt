@@ -17,7 +17,10 @@ mod substitution;
 pub use faults::SubstFault;
 pub use laws::{labels_hold, messages_hold, replacements_hold, substitutions_hold};
 pub use message::NewMessage;
-pub use substitution::{at_label, replace, substitute, substitute_message, term_at_label};
+pub use substitution::{
+    at_label, put_message, replace, room_after_message, substitute, substitute_message,
+    term_at_label,
+};
 
 #[cfg(test)]
 mod tests;

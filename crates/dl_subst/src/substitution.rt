@@ -1,7 +1,7 @@
 //! The calls.
 
-ghost use Rattle.std.specs.Prelude.{◌≡◌, ◌↔◌, true, false, IfOk};
-ghost use Rattle.dl_term.specs.Measures.{is_oversized};
+ghost use Rattle.std.specs.Prelude.{◌≡◌, ◌↔◌, ◌≤◌, ◌<◌, ◌+◌, true, false, IfOk, IfSome, IfNone};
+ghost use Rattle.dl_term.specs.Measures.{formula_parts, is_oversized};
 ghost use Rattle.dl_subst.specs.Change.{Change as AnyChange, changed, captures};
 ghost use Rattle.dl_subst.specs.Code.{change_of};
 ghost use Rattle.dl_subst.specs.Substitution.{for_variable, for_message, for_term, substituted, message_substituted, replaced, with_label, term_with_label};
@@ -50,6 +50,28 @@ pub fn substitute_message(
     ensures size { (result ≡ Err SubstFault.Size) ↔ ((captures (for_message msg new.now) formula.now ≡ false) × (is_oversized (message_substituted formula.now msg new.now) ≡ true)) }
 {
     make(alloc, formula, &Change::ForMessage(msg, &*new))
+}
+
+/// The formula with the new terms in the places of the parts of the message, as [`substitute_message`] makes it, with no
+/// look at captures or at the size. The one refusal is want of memory.
+pub fn put_message(
+    alloc: Global,
+    formula: &Formula,
+    msg: u32,
+    new: &NewMessage,
+) -> Result<Formula, AllocError>
+    ensures { IfOk result (λ made. made ≡ message_substituted formula.now msg new.now) }
+{
+    change_formula(alloc, &Change::ForMessage(msg, &*new), formula)
+}
+
+/// What is left of a room, in parts, after the result of [`put_message`], or None where it has not enough.
+pub fn room_after_message(formula: &Formula, msg: u32, new: &NewMessage, room: u64) -> Option<u64>
+    requires { room ≤ 1000000 }
+    ensures left { IfSome result (λ left. left + formula_parts (message_substituted formula.now msg new.now) ≡ room) }
+    ensures lacks { IfNone result (room < formula_parts (message_substituted formula.now msg new.now)) }
+{
+    room_after(&Change::ForMessage(msg, &*new), formula, room)
 }
 
 /// The formula with the new term for each outermost occurrence of the old one. A place under a quantifier that binds a

@@ -1,0 +1,4 @@
+pub mod Shaped
+pub mod Ready
+pub mod Given
+pub mod Writes
