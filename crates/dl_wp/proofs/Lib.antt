@@ -1,0 +1,10 @@
+pub mod Quiet
+pub mod Choosing
+pub mod Cells
+pub mod Values
+pub mod Sends
+pub mod Receives
+pub mod Model
+pub mod SendLaw
+pub mod ReceiveLaw
+pub mod FirstLaw

@@ -1,0 +1,6 @@
+pub mod Choices
+pub mod Steps
+pub mod Before
+pub mod Captures
+pub mod First
+pub mod Conditions
