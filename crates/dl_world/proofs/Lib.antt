@@ -1,0 +1,6 @@
+mod Rests
+mod Marking
+mod Framing
+mod Injecting
+mod Shaping
+mod Tried
