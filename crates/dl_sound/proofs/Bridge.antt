@@ -34,31 +34,31 @@ use Rattle.dl_sound.proofs.Needed.{IsOwn, IsIn, IsOnlyIn, IsParameter, BlockNeed
 
 -- ---- labels and free names of what is known
 
-each-all : {X : Type 0} (p : X → Bool) (xs : List X) → list_all p xs ≡ true → Each (λ x. p x ≡ true) xs
+pub each-all : {X : Type 0} (p : X → Bool) (xs : List X) → list_all p xs ≡ true → Each (λ x. p x ≡ true) xs
 each-all p [] h = tt
 each-all p (x ∷ xs) h = (and-left (p x) (list_all p xs) h, each-all p xs (and-right (p x) (list_all p xs) h))
 
-each-none : {X : Type 0} (p : X → Bool) (xs : List X) → list_any p xs ≡ false → Each (λ x. p x ≡ false) xs
+pub each-none : {X : Type 0} (p : X → Bool) (xs : List X) → list_any p xs ≡ false → Each (λ x. p x ≡ false) xs
 each-none p [] h = tt
 each-none p (x ∷ xs) h = (or-left (p x) (list_any p xs) h, each-none p xs (or-right (p x) (list_any p xs) h))
 
-each-join : {X : Type 0} (P : X → Type 0) (xs ys : List X) → Each P xs → Each P ys → Each P (xs ++ ys)
+pub each-join : {X : Type 0} (P : X → Type 0) (xs ys : List X) → Each P xs → Each P ys → Each P (xs ++ ys)
 each-join P [] ys h k = k
 each-join P (x ∷ xs) ys h k = (h.0, each-join P xs ys h.1 k)
 
 -- a label that may be named
-abbrev IsThere : Scope → Lab → Type 0
+abbrev pub IsThere : Scope → Lab → Type 0
 IsThere scope lab = is_some (scope.protocol lab) ≡ true
 
-field-there : (o : Option Protocol) (field : ℕ) (row : Bool) → is_field o field row ≡ true → is_some o ≡ true
+pub field-there : (o : Option Protocol) (field : ℕ) (row : Bool) → is_field o field row ≡ true → is_some o ≡ true
 field-there None field row h = cc
 field-there (Some protocol) field row h = refl
 
-tag-there : (o : Option Protocol) (tag : ℕ) → is_tag o tag ≡ true → is_some o ≡ true
+pub tag-there : (o : Option Protocol) (tag : ℕ) → is_tag o tag ≡ true → is_some o ≡ true
 tag-there None tag h = cc
 tag-there (Some protocol) tag h = refl
 
-term-there : (scope : Scope) (t : Term) → TermIsKnown scope t → Each (IsThere scope) (term_labels t)
+pub term-there : (scope : Scope) (t : Term) → TermIsKnown scope t → Each (IsThere scope) (term_labels t)
 term-there scope (Num v) h = tt
 term-there scope (Word x v) h = tt
 term-there scope (Var x) h = tt
@@ -77,7 +77,7 @@ term-there scope (If' _ (one a end) _ (one b end) _ (one x end) _ (one y end)) h
     (each-join (IsThere scope) (term_labels a) (term_labels b) (term-there scope a h.0) (term-there scope b h.1))
     (each-join (IsThere scope) (term_labels x) (term_labels y) (term-there scope x h.2) (term-there scope y h.3))
 
-labels-there : (f : Formula) (scope : Scope) → FormulaIsKnown scope f → Each (IsThere scope) (labels_of f)
+pub labels-there : (f : Formula) (scope : Scope) → FormulaIsKnown scope f → Each (IsThere scope) (labels_of f)
 labels-there True scope h = tt
 labels-there False scope h = tt
 labels-there (Eq a b) scope h = each-join (IsThere scope) (term_labels a) (term_labels b) (term-there scope a h.0) (term-there scope b h.1)
@@ -93,7 +93,7 @@ labels-there (Each' msg label tag _ (one_formula body end_formula)) scope h = (t
 labels-there (Any' msg label tag _ (one_formula body end_formula)) scope h = (tag-there (scope.protocol label) tag h.1, labels-there body (with_message scope msg) h.2)
 
 -- each variable of a known term is in scope
-term-free : (scope : Scope) (x : ℕ) (t : Term) → TermIsKnown scope t → has_variable t x ≡ true → has scope.variables x ≡ true
+pub term-free : (scope : Scope) (x : ℕ) (t : Term) → TermIsKnown scope t → has_variable t x ≡ true → has scope.variables x ≡ true
 term-free scope x (Num v) h e = cc
 term-free scope x (Word y v) h e = cc
 term-free scope x (Var y) h e = subst (λ z. has scope.variables z ≡ true) (eqb-true y x e) h
@@ -113,7 +113,7 @@ term-free scope x (If' _ (one a end) _ (one b end) _ (one c end) _ (one d end)) 
 ]
 
 -- a name that is free below a quantifier and isn't bound by it is in the scope outside
-unbound : (x y : ℕ) (scope : Scope) (free : Bool) → (not (y == x) && free) ≡ true → (free ≡ true → has (y ∷ scope.variables) x ≡ true) → has scope.variables x ≡ true
+pub unbound : (x y : ℕ) (scope : Scope) (free : Bool) → (not (y == x) && free) ≡ true → (free ≡ true → has (y ∷ scope.variables) x ≡ true) → has scope.variables x ≡ true
 unbound x y scope free e h = go (x == y) refl
   where
     go : (b : Bool) → (x == y) ≡ b → has scope.variables x ≡ true
@@ -123,7 +123,7 @@ unbound x y scope free e h = go (x == y) refl
         turn q = let same : x ≡ y = eqb-true x y q in subst (λ z. (y == z) ≡ true) (sym same) (eq-eqb y y refl)
     go false q = subst (λ b. (b || has scope.variables x) ≡ true) q (h (and-right (not (y == x)) free e))
 
-free-known : (x : ℕ) (f : Formula) (scope : Scope) → FormulaIsKnown scope f → is_free_variable f x ≡ true → has scope.variables x ≡ true
+pub free-known : (x : ℕ) (f : Formula) (scope : Scope) → FormulaIsKnown scope f → is_free_variable f x ≡ true → has scope.variables x ≡ true
 free-known x True scope h e = cc
 free-known x False scope h e = cc
 free-known x (Eq a b) scope h e = elim (either-true (has_variable a x) (has_variable b x) e) [ inl l ↦ term-free scope x a h.0 l | inr r ↦ term-free scope x b h.1 r ]
@@ -153,7 +153,7 @@ tag-sorts inst h label tag = protocol-has inst
     (λ p protocol e. each-get (λ (t : Tag). Each IsSort (arg_sorts t.args)) protocol.tags tag no_tag tt
     (each-map (TagIsFormed protocol) _ protocol.tags (h.protocols p protocol e).tags (λ t k. k.args.1))) (slice_get inst.of label)
 
-own-there : (protocol : Protocol) (lab : Lab) → is_some (own_label protocol lab) ≡ true → IsOwn lab
+pub own-there : (protocol : Protocol) (lab : Lab) → is_some (own_label protocol lab) ≡ true → IsOwn lab
 own-there protocol Own h = tt
 own-there protocol (At label) h = cc
 

@@ -9,10 +9,11 @@ use Rattle.dl_term.specs.State.{State, Statelet, Message, statelet, soup_at, mes
 use Rattle.dl_term.specs.Names.{Names}
 use Rattle.dl_model.specs.Sorts.{has}
 use Rattle.dl_model.specs.Lookup.{tag_at}
-use Rattle.dl_model.specs.Steps.{change, put, set_cell, update_fits, updated, index_of, Step, Sending, Receiving, after_step, message_in, consumed, statelet_sent, statelet_received, names_of_send, names_of_receive, receive_at}
+use Rattle.dl_model.specs.Steps.{change, put, set_cell, update_fits, updated, index_of, Step, Sending, Receiving, label_of_step, after_step, message_in, consumed, statelet_sent, statelet_received, names_of_send, names_of_receive, receive_at}
 use Rattle.dl_model.specs.Spoken.{bound_names}
 use Rattle.dl_model.specs.Words.{me_word}
-use Rattle.dl_sound.specs.Touched.{touch_of, formula_touched, Known, none_live}
+use Rattle.dl_inv.specs.Touched.{fields_of, formula_touched, none_live}
+use Rattle.dl_sound.specs.Touched.{touch_of, Known}
 use Rattle.dl_term.specs.Meaning.{value, holds}
 use Rattle.dl_model.specs.declared.protocol.Update.{Update}
 use Rattle.dl_model.specs.declared.protocol.Instances.{Instances}
@@ -121,7 +122,7 @@ tag-there (m ∷ ms) (suc k) (suc id) e w q = tag-there ms k id e (omega arith) 
 at-written : (P : Statelet → Type 0) (s : State) (new : Statelet) (label : ℕ) → P (statelet s label) → P new → P (unwrap_or (slice_get (change (λ old. new) s.labels label) label) (record { fields = []; soup = [] }))
 at-written P s new label h k = statelet-written P s.labels new (record { fields = []; soup = [] }) label label h (λ e. k)
 
-pub move-effect : (inst : Instances) (s : State) (mover own : ℕ) (spares : Bool) (move : Step) → Effect (touch_of inst s own spares move) mover s (after_step inst s mover move)
+pub move-effect : (inst : Instances) (s : State) (mover own : ℕ) (spares : Bool) (move : Step) → Effect (label_of_step move) (touch_of inst s own spares move) mover s (after_step inst s mover move)
 move-effect inst s mover own spares (Sending label tag to args) = record {
   nodes = refl;
   others = λ other n. statelet-other inst s mover (Sending label tag to args) other n;
@@ -158,6 +159,8 @@ move-effect inst s mover own spares (Receiving label id) = record {
 
 -- a formula without names of messages
 pub untouched-kept : (inst : Instances) (s : State) (mover own : ℕ) (spares : Bool) (move : Step) (f : Formula) (names : Names) → formula_touched (touch_of inst s own spares move) none_live f ≡ false → has (bound_names f) me_word ≡ false →
-    Known (touch_of inst s own spares move) mover none_live names s → holds f names s ≡ holds f names (after_step inst s mover move)
-untouched-kept inst s mover own spares move f names h m k =
-    holds-untouched (touch_of inst s own spares move) mover s (after_step inst s mover move) (move-effect inst s mover own spares move) f none_live names h m k
+    Known own (label_of_step move) (touch_of inst s own spares move) mover none_live names s → holds f names s ≡ holds f names (after_step inst s mover move)
+untouched-kept inst s mover own spares (Sending label tag to args) f names h m k =
+    holds-untouched own label tag (fields_of (tag_at inst label tag).send.updates) true spares mover s (after_step inst s mover (Sending label tag to args)) (move-effect inst s mover own spares (Sending label tag to args)) f none_live names h m k
+untouched-kept inst s mover own spares (Receiving label id) f names h m k =
+    holds-untouched own label (message_in s label id).tag (fields_of (receive_at inst label (message_in s label id)).updates) false spares mover s (after_step inst s mover (Receiving label id)) (move-effect inst s mover own spares (Receiving label id)) f none_live names h m k

@@ -13,4 +13,15 @@ pub mod Histories
 pub mod Untouched
 pub mod Effects
 pub mod Bridge
+pub mod InStep
+pub mod Scoped
+pub mod Members
+pub mod StepNames
+pub mod Hypotheses
+pub mod SendKept
+pub mod ReceiveKept
+pub mod WorldFacts
+pub mod Valid
 pub mod Games
+pub mod Counted
+pub mod Talking

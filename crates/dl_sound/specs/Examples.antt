@@ -1,7 +1,9 @@
 -- Small files that meet all premises of the laws, and some whose runs are not safe.
 use Rattle.std.specs.Prelude.{pos, false, Some, None, [], ◌∷◌}
-use Rattle.dl_term.specs.declared.syntax.Formula.{True, False}
-use Rattle.dl_term.specs.declared.syntax.Term.{Num, Var}
+use Rattle.dl_term.specs.declared.syntax.Lab.TheVariants.{At}
+use Rattle.dl_term.specs.declared.syntax.Part.TheVariants as part
+use Rattle.dl_term.specs.declared.syntax.Formula.{Formula, True, False, Eq, Each}
+use Rattle.dl_term.specs.declared.syntax.Term.{Num, Var, Msg}
 use Rattle.dl_model.specs.declared.protocol.Tag.{Tag}
 use Rattle.dl_model.specs.declared.protocol.Protocol.{Protocol}
 use Rattle.dl_model.specs.declared.program.Command.{Command, Send, Await, Poll, Read, Set, If', While', Call, more_of-Command, end_of-Command}
@@ -66,6 +68,20 @@ false_guard = record game { inst = record { nodes = 2; protocols = game_with (re
 -- an invariant is false from the beginning
 abbrev pub false_invariant : Decls
 false_invariant = record game { invariants = record { sym = 50; world = 0; formula = False } ∷ [] }
+
+-- ---- a file in which each message is to be from its addressee, which a send to another node breaks
+
+abbrev pub chat : Tag
+chat = record { sym = 41; args = []; send = record { guard = True; updates = [] }; receive = None }
+
+abbrev pub from_itself : Formula
+from_itself = Each 51 (At 0) 0 (Eq (Msg 51 part.From) (Msg 51 part.To))
+
+abbrev pub talking : Decls
+talking = record game {
+  inst = record { nodes = 2; protocols = record { sym = 42; fields = []; tags = chat ∷ []; coherence = None } ∷ []; of = 0 ∷ [] };
+  invariants = record { sym = 50; world = 0; formula = from_itself } ∷ [];
+}
 
 -- ---- a procedure with each command but an await
 

@@ -1,0 +1,9 @@
+pub mod Words
+pub mod Joined
+pub mod Touched
+pub mod Steps
+pub mod Facts
+pub mod Obligations
+pub mod Duties
+pub mod Taken
+pub mod Examples

@@ -1,0 +1,9 @@
+//! The obligations of protocols and invariants: which ones a file has, and the sequent of each.
+#![tactic(auto)]
+
+mod laws;
+
+pub use laws::{
+    file_names_may_be_taken, injection_is_told, nothing_is_captured, obligations_are_clean,
+    obligations_compute,
+};
