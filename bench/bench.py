@@ -5,9 +5,8 @@
 
 PROGRAM is the built program, by default crates/disel/out/disel (`rt run` or `rt ci` builds it). Each
 kind of text is made in five sizes, each twice the one before. A row has the bytes per second at the
-largest size, the seconds at each size, and the greatest growth of the time per doubling over the
-largest four sizes, where the time of an empty text, which is that of starting a program, is taken
-off. The best of five runs counts. On a machine that does other work too, times of a few
+largest size, the seconds at each size, and the greatest growth of the time for a doubling, from 64
+KiB on, where the time of an empty text, which is that of starting a program, is taken off. The best of five runs counts. On a machine that does other work too, times of a few
 milliseconds say little of growth. Nothing here is a test: the rows are to be read.
 """
 import os
@@ -24,19 +23,21 @@ HEAD = """(disel 1
   (protocol count
     (field n int 0)
     (tag inc () (send true (set n (+ (get self n me) 1)))))
-  (label c count)
-  (world w (labels c) (hooks))
+  (label LABEL count)
+  (world w (labels LABEL) (hooks))
 """
 INVARIANT = "  (invariant pos w (all x (<= 0 %s)))\n  (deploy w)\n"
-START = "  (proof (step pos c inc send) (names s d)\n    (open k (inst pos k hk (inst pos s hs\n"
+START = "  (proof (step pos LABEL inc send) (names s d)\n    (open k (inst pos k hk (inst pos s hs\n"
+FIRST = "  (proof (init pos) (names) (open f (linear (goal))))\n"
 LEAF = "(decide (= k s) z (reduce z goal (linear (add (1 (goal)) (1 (use hs))))) " \
        "(reduce z goal (linear (add (1 (goal)) (1 (use hk))))))"
-READ = "(get c n x)"
+READ = "(get LABEL n x)"
 
 
-def counter(script=LEAF, value=READ):
-    """The counter file with this script inside its three first rules."""
-    return HEAD + INVARIANT % value + START + script + "))))\n)\n"
+def counter(script=LEAF, value=READ, first="", label="c"):
+    """The counter file with this script inside its three first rules, and further proofs before it."""
+    text = HEAD + INVARIANT % value + first + START + script + "))))\n)\n"
+    return text.replace("LABEL", label)
 
 
 def padded(text, size, filler):
@@ -100,9 +101,12 @@ def balanced(parts):
 
 
 def formula(size):
-    """One invariant over a long sum. Its step is proved; at first it isn't plain, so it is refused at the end."""
-    parts = max(1, (size - len(counter())) // 16)
-    return padded(counter(value=balanced(parts)), size, "x")
+    """One invariant over a long sum, proved at first and for its step, accepted. A label's name of eleven letters
+    leaves the step's sequents with fewer than 1,000,000 parts, 19 for each read, at the largest size too."""
+    label = "all_counted"
+    empty = len(counter(value="", first=FIRST, label=label))
+    parts = max(1, (size - empty) // len("(+  )" + READ.replace("LABEL", label)))
+    return padded(counter(value=balanced(parts), first=FIRST, label=label), size, "x")
 
 
 def certificate(size):
@@ -142,7 +146,7 @@ def main():
             times.append(took)
             length = len(text)
         net = [max(took - start, 1e-4) for took in times]
-        growth = max(after / before for before, after in zip(net[1:], net[2:]))
+        growth = max(after / before for before, after in zip(net, net[1:]))
         rate = length / times[-1] / 1e6
         row = " ".join("%.4f" % took for took in times)
         print("%-12s %9.1f %8.2f  %s; %s" % (kind.__name__, rate, growth, row, last[:60]))

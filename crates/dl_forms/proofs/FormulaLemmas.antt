@@ -1,6 +1,6 @@
 -- Formulas and their trees.
 use Rattle.std.proofs.Common.{◌≡◌, ℕ, true, false, List, [], ◌∷◌, Some, None, length, map, refl, ap, sym, ◌∙◌, subst}
-use Rattle.std.specs.Prelude.{codes}
+use Rattle.std.specs.Prelude.{codes, is_some}
 use Rattle.std.specs.Str.{bytes_eq}
 use Rattle.std.proofs.lemmas.Slice.Eq.{bytes_eq-Decides}
 use Rattle.dl_tree.specs.declared.tree.Place.{Place}
@@ -19,13 +19,13 @@ use Rattle.dl_forms.specs.Context.{Text, is_among}
 use Rattle.dl_forms.specs.Form.{head_of}
 use Rattle.dl_forms.specs.Notation.{formula_forms, form_with}
 use Rattle.dl_forms.specs.Scope.{Binding, OfVariable, text_at, taken}
-use Rattle.dl_forms.specs.Judge.{fault, Stage, is_name, behind}
+use Rattle.dl_forms.specs.Judge.{fault, Stage, is_name, behind, list_rule, is_plain, breaks_kind}
 use Rattle.dl_forms.specs.Show.{bare, no_place, symbol, form, shown_formula, name}
 use Rattle.dl_forms.specs.Known.{IsKnownThere}
 use Rattle.dl_forms.specs.Read.{ReadsFormula, ReadsFormulaForm, ReadsFormulas, ReadsQuantified, BindsVariable, BindsMessage, names_stage, list_formula_fault, quantified_fault}
 use Rattle.dl_forms.proofs.FaultLemmas.{fault-Num, fault-Sym, fault-List, fault_of_empty}
 use Rattle.dl_forms.proofs.NameLemmas.{bare-Sym}
-use Rattle.dl_forms.proofs.TermLemmas.{bare-List, bare_head, form_fault-plain}
+use Rattle.dl_forms.proofs.TermLemmas.{bare-List, bare_head, form_fault-plain, form_fault-refused, misfits}
 
 module _ (names : Names) (scope : Scope) (inst : Instances) (bound : List Binding) where
   not_other : (p : Place) (parts : List Tree) (f : Formula) (h : Head) → ReadsFormulaForm names scope inst bound p h parts f → h ≡ head.Other → ⊥
@@ -172,9 +172,15 @@ module _ (names : Names) (scope : Scope) (inst : Instances) (bound : List Bindin
   unfolding block.hidden-the_row-Formula-0 block.shape-the_row-Formula-0 block.shown-the_row-Formula-0 denote.Hole.Carrier.hidden
   known-All s f k = k
 
-  pub reads_universal : (p : Place) (parts : List Tree) (s : ℕ) (f : Formula) → ReadsQuantified names scope inst bound parts s f → ReadsFormulaForm names scope inst bound p head.All parts (formula.All s f)
-  reads_universal p parts s f reads = record {
-    sound = form_fault-plain (names_stage names scope inst bound) position.Formula p head.All parts (form_with (length parts) (formula_forms head.All)) refl ∙ quantified_sound p parts s f reads;
+  pub faults_universal : (p : Place) (parts : List Tree) → is_plain scope.kind ≡ false → list_formula_fault names scope inst bound p head.All parts ≡ quantified_fault names scope inst bound p parts
+  faults_universal p parts allowed = form_fault-plain (names_stage names scope inst bound) position.Formula p head.All parts (form_with (length parts) (formula_forms head.All)) (rw allowed refl)
+
+  pub faults_existential : (p : Place) (parts : List Tree) → is_plain scope.kind ≡ false → list_formula_fault names scope inst bound p head.Some parts ≡ quantified_fault names scope inst bound p parts
+  faults_existential p parts allowed = form_fault-plain (names_stage names scope inst bound) position.Formula p head.Some parts (form_with (length parts) (formula_forms head.Some)) (rw allowed refl)
+
+  pub reads_universal : (p : Place) (parts : List Tree) (s : ℕ) (f : Formula) → is_plain scope.kind ≡ false → ReadsQuantified names scope inst bound parts s f → ReadsFormulaForm names scope inst bound p head.All parts (formula.All s f)
+  reads_universal p parts s f allowed reads = record {
+    sound = faults_universal p parts allowed ∙ quantified_sound p parts s f reads;
     shown = rw (reads.whole, reads.binds.shown, reads.reads.shown) (sym (shown-All s f));
     known = known-All s f reads.reads.known;
   }
@@ -187,9 +193,9 @@ module _ (names : Names) (scope : Scope) (inst : Instances) (bound : List Bindin
   unfolding block.hidden-the_row-Formula-0 block.shape-the_row-Formula-0 block.shown-the_row-Formula-0 denote.Hole.Carrier.hidden
   known-Exists s f k = k
 
-  pub reads_existential : (p : Place) (parts : List Tree) (s : ℕ) (f : Formula) → ReadsQuantified names scope inst bound parts s f → ReadsFormulaForm names scope inst bound p head.Some parts (formula.Exists s f)
-  reads_existential p parts s f reads = record {
-    sound = form_fault-plain (names_stage names scope inst bound) position.Formula p head.Some parts (form_with (length parts) (formula_forms head.Some)) refl ∙ quantified_sound p parts s f reads;
+  pub reads_existential : (p : Place) (parts : List Tree) (s : ℕ) (f : Formula) → is_plain scope.kind ≡ false → ReadsQuantified names scope inst bound parts s f → ReadsFormulaForm names scope inst bound p head.Some parts (formula.Exists s f)
+  reads_existential p parts s f allowed reads = record {
+    sound = faults_existential p parts allowed ∙ quantified_sound p parts s f reads;
     shown = rw (reads.whole, reads.binds.shown, reads.reads.shown) (sym (shown-Exists s f));
     known = known-Exists s f reads.reads.known;
   }
@@ -200,6 +206,15 @@ pub ruleset binders = (shadows, shadows_message, no_variable_name, no_new_messag
 
 pub ruleset quantified = (fault-Num, fault-Sym)
 
-pub ruleset dispatch = (fault-Num, fault-Sym)
+-- a list whose form doesn't fit, and one that its kind excludes
+pub misfits_formula : (names : Names) (scope : Scope) (inst : Instances) (bound : List Binding) (p : Place) (h : Head) (parts : List Tree) →
+    is_some (form_with (length parts) (formula_forms h)) ≡ false → list_formula_fault names scope inst bound p h parts ≡ Some (10, p)
+misfits_formula names scope inst bound p h parts none = misfits (names_stage names scope inst bound) position.Formula p h parts (form_with (length parts) (formula_forms h)) none
 
-pub ruleset lists = (fault-Num)
+pub excludes_formula : (names : Names) (scope : Scope) (inst : Instances) (bound : List Binding) (p : Place) (h : Head) (parts : List Tree) →
+    is_some (form_with (length parts) (formula_forms h)) ≡ true → breaks_kind scope.kind h parts ≡ true → list_formula_fault names scope inst bound p h parts ≡ Some (14, p)
+excludes_formula names scope inst bound p h parts fits breaks = form_fault-refused (names_stage names scope inst bound) position.Formula p h parts (form_with (length parts) (formula_forms h)) fits (rw breaks refl)
+
+pub ruleset dispatch = (fault-Num, fault-Sym, misfits_formula, excludes_formula)
+
+pub ruleset lists = (fault-Num, faults_universal, faults_existential)

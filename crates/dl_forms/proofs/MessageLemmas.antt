@@ -1,5 +1,5 @@
 -- Quantifiers over messages.
-use Rattle.std.proofs.Common.{◌≡◌, ℕ, true, List, [], ◌∷◌, Some, None, length, refl, sym, ◌∙◌}
+use Rattle.std.proofs.Common.{◌≡◌, ℕ, true, false, List, [], ◌∷◌, Some, None, length, refl, sym, ◌∙◌}
 use Rattle.std.specs.Prelude.{codes, is_some}
 use Rattle.dl_tree.specs.declared.tree.Place.{Place}
 use Rattle.dl_tree.specs.declared.tree.Tree.{Tree}
@@ -14,10 +14,10 @@ use Rattle.dl_forms.specs.declared.scope.Scope.{Scope}
 use Rattle.dl_model.specs.declared.protocol.Instances.{Instances}
 use Rattle.dl_forms.specs.Scope.{Binding, OfMessage}
 use Rattle.dl_forms.specs.Notation.{formula_forms, form_with}
-use Rattle.dl_forms.specs.Judge.{fault}
+use Rattle.dl_forms.specs.Judge.{fault, is_limited}
 use Rattle.dl_forms.specs.Show.{form, name, label, tag, tag_at, shown_formula, protocol_of}
 use Rattle.dl_forms.specs.Known.{IsKnownThere}
-use Rattle.dl_forms.specs.Read.{BindsMessage, ReadsLabel, ReadsTag, ReadsOverMessages, ReadsFormulaForm, names_stage, label_stage, messages_fault}
+use Rattle.dl_forms.specs.Read.{BindsMessage, ReadsLabel, ReadsTag, ReadsOverMessages, ReadsFormulaForm, names_stage, label_stage, messages_fault, list_formula_fault}
 use Rattle.dl_forms.proofs.TermLemmas.{form_fault-plain}
 
 module _ (names : Names) (scope : Scope) (inst : Instances) (bound : List Binding) where
@@ -51,9 +51,15 @@ module _ (names : Names) (scope : Scope) (inst : Instances) (bound : List Bindin
   unfolding block.hidden-the_row-Formula-0 block.shape-the_row-Formula-0 block.shown-the_row-Formula-0 denote.Hole.Carrier.hidden
   known-Each s lab t f k j = (k, j)
 
-  pub reads_each : (p : Place) (parts : List Tree) (s : ℕ) (lab : Lab) (t : ℕ) (f : Formula) → ReadsOverMessages names scope inst bound parts s lab t f → ReadsFormulaForm names scope inst bound p head.Each parts (formula.Each s lab t f)
-  reads_each p parts s lab t f reads = record {
-    sound = form_fault-plain (names_stage names scope inst bound) position.Formula p head.Each parts (form_with (length parts) (formula_forms head.Each)) refl ∙ messages_sound p parts s lab t f reads;
+  pub faults_each : (p : Place) (parts : List Tree) → is_limited scope.kind ≡ false → list_formula_fault names scope inst bound p head.Each parts ≡ messages_fault names scope inst bound p parts
+  faults_each p parts allowed = form_fault-plain (names_stage names scope inst bound) position.Formula p head.Each parts (form_with (length parts) (formula_forms head.Each)) (rw allowed refl)
+
+  pub faults_any : (p : Place) (parts : List Tree) → is_limited scope.kind ≡ false → list_formula_fault names scope inst bound p head.Any parts ≡ messages_fault names scope inst bound p parts
+  faults_any p parts allowed = form_fault-plain (names_stage names scope inst bound) position.Formula p head.Any parts (form_with (length parts) (formula_forms head.Any)) (rw allowed refl)
+
+  pub reads_each : (p : Place) (parts : List Tree) (s : ℕ) (lab : Lab) (t : ℕ) (f : Formula) → is_limited scope.kind ≡ false → ReadsOverMessages names scope inst bound parts s lab t f → ReadsFormulaForm names scope inst bound p head.Each parts (formula.Each s lab t f)
+  reads_each p parts s lab t f allowed reads = record {
+    sound = faults_each p parts allowed ∙ messages_sound p parts s lab t f reads;
     shown = rw (reads.whole, reads.binds.shown, reads.reads_label.shown, reads.reads_tag.shown, reads.reads.shown) (sym (shown-Each s lab t f));
     known = known-Each s lab t f reads.reads_tag.exists reads.reads.known;
   }
@@ -67,11 +73,13 @@ module _ (names : Names) (scope : Scope) (inst : Instances) (bound : List Bindin
   unfolding block.hidden-the_row-Formula-0 block.shape-the_row-Formula-0 block.shown-the_row-Formula-0 denote.Hole.Carrier.hidden
   known-Any s lab t f k j = (k, j)
 
-  pub reads_any : (p : Place) (parts : List Tree) (s : ℕ) (lab : Lab) (t : ℕ) (f : Formula) → ReadsOverMessages names scope inst bound parts s lab t f → ReadsFormulaForm names scope inst bound p head.Any parts (formula.Any s lab t f)
-  reads_any p parts s lab t f reads = record {
-    sound = form_fault-plain (names_stage names scope inst bound) position.Formula p head.Any parts (form_with (length parts) (formula_forms head.Any)) refl ∙ messages_sound p parts s lab t f reads;
+  pub reads_any : (p : Place) (parts : List Tree) (s : ℕ) (lab : Lab) (t : ℕ) (f : Formula) → is_limited scope.kind ≡ false → ReadsOverMessages names scope inst bound parts s lab t f → ReadsFormulaForm names scope inst bound p head.Any parts (formula.Any s lab t f)
+  reads_any p parts s lab t f allowed reads = record {
+    sound = faults_any p parts allowed ∙ messages_sound p parts s lab t f reads;
     shown = rw (reads.whole, reads.binds.shown, reads.reads_label.shown, reads.reads_tag.shown, reads.reads.shown) (sym (shown-Any s lab t f));
     known = known-Any s lab t f reads.reads_tag.exists reads.reads.known;
   }
+
+pub ruleset each = (faults_each, faults_any)
 
 pub ruleset messages = (name_fault, message_label_fault, message_tag_fault, message_body_fault)

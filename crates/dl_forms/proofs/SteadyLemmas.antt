@@ -78,7 +78,7 @@ module _ (old new : NameTable) (grown : Extends old new) where
     in-scope-same = rw (texts-of (λ v. v.0) scope.vars known.vars, texts-of (λ m. m.0) scope.messages known.messages) refl
 
     declared-same : declared new scope inst ≡ declared old scope inst
-    declared-same = rw (grown.sorts, sorts-same old.sorts known.sorts, protocol-names-same inst.protocols known.protocols, texts-of (λ w. w.0) scope.words known.words, texts-same scope.labels known.labels) refl
+    declared-same = rw (grown.sorts, sorts-same old.sorts known.sorts, protocol-names-same inst.protocols known.protocols, texts-of (λ w. w.0) scope.words known.words, texts-same scope.labels known.labels, texts-same scope.declared known.declared) refl
 
     marked-same : (quantified : Bool) → marked quantified new.texts new.marks ≡ marked quantified old.texts old.marks
     marked-same quantified = rw (grown.texts, grown.marks) (marked-front quantified old.texts grown.more old.marks known.marks)

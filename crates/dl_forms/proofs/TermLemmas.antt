@@ -1,6 +1,6 @@
 -- Terms and their trees.
 use Rattle.std.proofs.Common.{◌≡◌, ℤ, true, false, List, [], ◌∷◌, Option, Some, None, length, map, refl, ap, sym, ◌∙◌, if◌then◌else◌, subst, arith, ◌⊎◌, inl, inr}
-use Rattle.std.specs.Prelude.{codes}
+use Rattle.std.specs.Prelude.{codes, is_some}
 use Rattle.std.proofs.Common.{get_or, ◌≤◌, ◌<◌}
 use Rattle.std.specs.Str.{bytes_eq}
 use Rattle.dl_term.specs.declared.syntax.Term.TheBlock as block
@@ -27,7 +27,7 @@ use Rattle.dl_forms.specs.Form.{head_of, head_named}
 use Rattle.dl_forms.specs.Word.{word_of}
 use Rattle.dl_forms.specs.Notation.{term_forms, form_with}
 use Rattle.dl_forms.specs.Parts.{form_fault, of_form}
-use Rattle.dl_forms.specs.Judge.{fault, Stage, list_rule, misses_index}
+use Rattle.dl_forms.specs.Judge.{fault, Stage, list_rule, misses_index, breaks_kind}
 use Rattle.dl_forms.specs.Show.{bare, no_place, layer_bare, symbol, form, shown_term}
 use Rattle.dl_forms.specs.Known.{IsKnown}
 use Rattle.dl_forms.specs.Read.{ReadsTerm, ReadsForm, ReadsPair, names_stage, list_fault, pair_fault}
@@ -134,6 +134,17 @@ pub form_fault-plain : (stage : Stage) (q : Position) (p : Place) (h : Head) (pa
 form_fault-plain stage q p h parts None plain = refl
 form_fault-plain stage q p h parts (Some form) plain = rw plain refl
 
+-- a list whose form doesn't fit
+pub misfits : (stage : Stage) (q : Position) (p : Place) (h : Head) (parts : List Tree) (form : Option (List Position)) → is_some form ≡ false → form_fault stage q p h parts form ≡ Some (10, p)
+misfits stage q p h parts None none = refl
+misfits stage q p h parts (Some form) none = cc
+
+-- a list that breaks a rule as a whole
+pub form_fault-refused : (stage : Stage) (q : Position) (p : Place) (h : Head) (parts : List Tree) (form : Option (List Position)) → is_some form ≡ true → list_rule stage q h parts ≡ Some 14 →
+    form_fault stage q p h parts form ≡ Some (14, p)
+form_fault-refused stage q p h parts None some broken = cc
+form_fault-refused stage q p h parts (Some form) some broken = rw broken refl
+
 module _ (names : Names) (scope : Scope) (inst : Instances) where
   shown-Add : (a b : Term) → shown_term names scope inst (term.Add a b) ≡ form (codes "+") (shown_term names scope inst a ∷ shown_term names scope inst b ∷ [])
   unfolding block.hidden-the_row-Term-0 block.shape-the_row-Term-0 block.shown-the_row-Term-0 denote.Hole.Carrier.hidden
@@ -171,9 +182,9 @@ module _ (names : Names) (scope : Scope) (inst : Instances) where
     known-If a b x y k l m n = (k, l, m, n)
 
     -- a form of two terms that isn't wide
-    module _ (h : Head) (forms_are : term_forms h ≡ (position.Term ∷ position.Term ∷ []) ∷ []) (indexed : (c : Context) (parts : List Tree) → misses_index c h parts ≡ false) where
+    module _ (h : Head) (forms_are : term_forms h ≡ (position.Term ∷ position.Term ∷ []) ∷ []) (indexed : (c : Context) (parts : List Tree) → (breaks_kind c.kind h parts ≡ false) × (misses_index c h parts ≡ false)) where
       plain : (parts : List Tree) → is_wide (words_of names scope) position.Term h parts ≡ false → list_rule (names_stage names scope inst bound) position.Term h parts ≡ None
-      plain parts narrow = rw (indexed (context_of names scope inst bound) parts, narrow) refl
+      plain parts narrow = rw ((indexed (context_of names scope inst bound) parts).0, (indexed (context_of names scope inst bound) parts).1, narrow) refl
 
       faults_pair : (p : Place) (parts : List Tree) → is_wide (words_of names scope) position.Term h parts ≡ false → list_fault names scope inst bound p h parts ≡ pair_fault names scope inst bound p parts
       faults_pair p parts narrow =
@@ -191,25 +202,25 @@ module _ (names : Names) (scope : Scope) (inst : Instances) where
       }
 
     pub faults_sum : (p : Place) (parts : List Tree) → is_wide (words_of names scope) position.Term head.Add parts ≡ false → list_fault names scope inst bound p head.Add parts ≡ pair_fault names scope inst bound p parts
-    faults_sum = faults_pair head.Add refl (λ c parts. refl)
+    faults_sum = faults_pair head.Add refl (λ c parts. (refl, refl))
 
     pub faults_difference : (p : Place) (parts : List Tree) → is_wide (words_of names scope) position.Term head.Sub parts ≡ false → list_fault names scope inst bound p head.Sub parts ≡ pair_fault names scope inst bound p parts
-    faults_difference = faults_pair head.Sub refl (λ c parts. refl)
+    faults_difference = faults_pair head.Sub refl (λ c parts. (refl, refl))
 
     pub faults_product : (p : Place) (parts : List Tree) → is_wide (words_of names scope) position.Term head.Mul parts ≡ false → list_fault names scope inst bound p head.Mul parts ≡ pair_fault names scope inst bound p parts
-    faults_product = faults_pair head.Mul refl (λ c parts. refl)
+    faults_product = faults_pair head.Mul refl (λ c parts. (refl, refl))
 
     pub reads_sum : (p : Place) (parts : List Tree) (left right : Term) → is_wide (words_of names scope) position.Term head.Add parts ≡ false → ReadsPair names scope inst bound parts left right →
         ReadsForm names scope inst bound p head.Add parts (term.Add left right)
-    reads_sum p parts left right narrow reads = reads_pair head.Add refl (λ c parts. refl) p parts left right (term.Add left right) narrow reads (shown-Add left right) (known-Add left right reads.reads_first.known reads.reads_second.known)
+    reads_sum p parts left right narrow reads = reads_pair head.Add refl (λ c parts. (refl, refl)) p parts left right (term.Add left right) narrow reads (shown-Add left right) (known-Add left right reads.reads_first.known reads.reads_second.known)
 
     pub reads_difference : (p : Place) (parts : List Tree) (left right : Term) → is_wide (words_of names scope) position.Term head.Sub parts ≡ false → ReadsPair names scope inst bound parts left right →
         ReadsForm names scope inst bound p head.Sub parts (term.Sub left right)
-    reads_difference p parts left right narrow reads = reads_pair head.Sub refl (λ c parts. refl) p parts left right (term.Sub left right) narrow reads (shown-Sub left right) (known-Sub left right reads.reads_first.known reads.reads_second.known)
+    reads_difference p parts left right narrow reads = reads_pair head.Sub refl (λ c parts. (refl, refl)) p parts left right (term.Sub left right) narrow reads (shown-Sub left right) (known-Sub left right reads.reads_first.known reads.reads_second.known)
 
     pub reads_product : (p : Place) (parts : List Tree) (left right : Term) → is_wide (words_of names scope) position.Term head.Mul parts ≡ false → ReadsPair names scope inst bound parts left right →
         ReadsForm names scope inst bound p head.Mul parts (term.Mul left right)
-    reads_product p parts left right narrow reads = reads_pair head.Mul refl (λ c parts. refl) p parts left right (term.Mul left right) narrow reads (shown-Mul left right) (known-Mul left right reads.reads_first.known reads.reads_second.known)
+    reads_product p parts left right narrow reads = reads_pair head.Mul refl (λ c parts. (refl, refl)) p parts left right (term.Mul left right) narrow reads (shown-Mul left right) (known-Mul left right reads.reads_first.known reads.reads_second.known)
 
     pub reads_choice : (p : Place) (a b x y : Tree) (ta tb tx ty : Term) → is_wide (words_of names scope) position.Term head.If (a ∷ b ∷ x ∷ y ∷ []) ≡ false →
         ReadsTerm names scope inst bound a ta → ReadsTerm names scope inst bound b tb → ReadsTerm names scope inst bound x tx → ReadsTerm names scope inst bound y ty →
@@ -228,6 +239,13 @@ module _ (names : Names) (scope : Scope) (inst : Instances) where
     faults_wide p head.If (a ∷ b ∷ x ∷ y ∷ []) wide = rw wide refl
     faults_wide p h parts wide = cc
 
+    pub misfits_term : (p : Place) (h : Head) (parts : List Tree) → is_some (form_with (length parts) (term_forms h)) ≡ false → list_fault names scope inst bound p h parts ≡ Some (10, p)
+    misfits_term p h parts none = misfits (names_stage names scope inst bound) position.Term p h parts (form_with (length parts) (term_forms h)) none
+
+    pub excludes_term : (p : Place) (h : Head) (parts : List Tree) → is_some (form_with (length parts) (term_forms h)) ≡ true → breaks_kind scope.kind h parts ≡ true →
+        list_fault names scope inst bound p h parts ≡ Some (14, p)
+    excludes_term p h parts fits breaks = form_fault-refused (names_stage names scope inst bound) position.Term p h parts (form_with (length parts) (term_forms h)) fits (rw breaks refl)
+
 pub ruleset lists = (faults_sum, reads_sum, faults_difference, reads_difference, faults_product, reads_product, reads_choice)
 
-pub ruleset dispatch = (faults_wide)
+pub ruleset dispatch = (faults_wide, misfits_term, excludes_term)

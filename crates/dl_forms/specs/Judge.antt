@@ -11,6 +11,8 @@ use Rattle.dl_forms.specs.declared.head.Head.{Head}
 use Rattle.dl_forms.specs.declared.head.Head.TheVariants as head
 use Rattle.dl_forms.specs.declared.position.Position.{Position}
 use Rattle.dl_forms.specs.declared.position.Position.TheVariants.{Term, Formula, Label, Field, Tag, Message, NewVariable, NewMessage, Argument}
+use Rattle.dl_forms.specs.declared.scope.Kind.{Kind}
+use Rattle.dl_forms.specs.declared.scope.Kind.TheVariants as kinds
 use Rattle.dl_forms.specs.Form.{head_of}
 use Rattle.dl_forms.specs.Notation.{forms, form_with}
 use Rattle.dl_forms.specs.Width.{is_wide}
@@ -106,10 +108,46 @@ misses_index c head.Get (label ∷ field ∷ node ∷ []) = unwrap_or (row_at c 
 misses_index c head.Get (label ∷ field ∷ node ∷ index ∷ []) = not (unwrap_or (row_at c label field) true)
 misses_index c _ _ = false
 
+-- ---- kinds
+
+-- neither whole formulas nor local ones, but expressions and tests
+abbrev pub is_plain : Kind → Bool
+is_plain kinds.Plain = true
+is_plain _ = false
+
+abbrev pub is_limited : Kind → Bool
+is_limited kinds.Whole = false
+is_limited _ = true
+
+-- a local formula reads the fields of `me` alone
+abbrev pub breaks_at : Kind → Tree → Bool
+breaks_at kinds.Whole node = false
+breaks_at kinds.Local node = not (bytes_eq (text_of node) (codes "me"))
+breaks_at kinds.Plain node = true
+
+abbrev pub breaks_read : Kind → List Tree → Bool
+breaks_read kind (label ∷ field ∷ node ∷ rest) = breaks_at kind node
+breaks_read kind _ = false
+
+-- A list makes a formula not local, or an expression not of its kind.
+abbrev pub breaks_kind : Kind → Head → List Tree → Bool
+breaks_kind kind head.Get parts = breaks_read kind parts
+breaks_kind kind head.Len parts = is_limited kind
+breaks_kind kind head.Id parts = is_plain kind
+breaks_kind kind head.From parts = is_plain kind
+breaks_kind kind head.To parts = is_plain kind
+breaks_kind kind head.Live parts = is_plain kind
+breaks_kind kind head.Arg parts = is_plain kind
+breaks_kind kind head.All parts = is_plain kind
+breaks_kind kind head.Some parts = is_plain kind
+breaks_kind kind head.Each parts = is_limited kind
+breaks_kind kind head.Any parts = is_limited kind
+breaks_kind kind _ parts = false
+
 -- the rule that a list breaks as a whole
 abbrev pub list_rule : Stage → Position → Head → List Tree → Option ℕ
 list_rule OfForms q h parts = None
-list_rule (OfNames c) q h parts = if misses_index c h parts then Some 15 else rule_if 16 (is_wide c.words q h parts)
+list_rule (OfNames c) q h parts = if breaks_kind c.kind h parts then Some 14 else if misses_index c h parts then Some 15 else rule_if 16 (is_wide c.words q h parts)
 
 -- what names stand for behind a part
 abbrev pub behind : Stage → Position → Tree → Stage

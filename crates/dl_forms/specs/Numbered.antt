@@ -27,6 +27,7 @@ pub record AreNumbered (names : NameTable) (scope : Scope) (inst : Instances) : 
   pub messages : AreBelow (length names.texts) (map (λ m. m.0) scope.messages)
   pub words : AreBelow (length names.texts) (map (λ w. w.0) scope.words)
   pub labels : AreBelow (length names.texts) scope.labels
+  pub declared : AreBelow (length names.texts) scope.declared
   pub protocols : Each (ProtocolIsNumbered (length names.texts)) inst.protocols
   pub sorts : Each (SortIsNumbered (length names.texts)) names.sorts
   pub marks : length names.marks ≡ length names.texts

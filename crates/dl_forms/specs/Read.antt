@@ -141,6 +141,7 @@ module _ (names : Names) (scope : Scope) (inst : Instances) (bound : List Bindin
     pub shown : bare tree ≡ name names scope inst sym
     pub text : text_of tree ≡ text_at names sym
 
+  -- the parts of a quantifier over messages, and over nodes
   abbrev pub messages_fault : Place → List Tree → Option Fault
   messages_fault p parts = of_form names_stage p parts (form_with (length parts) ((position.NewMessage ∷ position.Label ∷ position.Tag ∷ position.Formula ∷ []) ∷ []))
 

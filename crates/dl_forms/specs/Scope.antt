@@ -78,7 +78,7 @@ sort_texts names (s ∷ sorts) = text_at names s.sym ∷ map (text_at names) s.v
 -- the declared names that are known here
 abbrev pub declared : Names → Scope → Instances → List Text
 declared names scope inst =
-    sort_texts names names.sorts ++ map (λ (p : Protocol). text_at names p.sym) inst.protocols ++ map (λ w. text_at names w.0) scope.words ++ map (text_at names) scope.labels
+    sort_texts names names.sorts ++ map (λ (p : Protocol). text_at names p.sym) inst.protocols ++ map (λ w. text_at names w.0) scope.words ++ map (text_at names) scope.labels ++ map (text_at names) scope.declared
 
 -- the names that have the mark
 abbrev pub marked : Bool → List Text → List Marks → List Text
@@ -111,6 +111,7 @@ context_of names scope inst bound = record {
   protocols = map (parts_of names) inst.protocols;
   taken = taken names scope inst bound;
   label_before = None;
+  kind = scope.kind;
 }
 
 -- the first of the numbers that has this text

@@ -14,6 +14,7 @@ use Rattle.dl_term.specs.declared.syntax.Term.{Term, Num, Word, Var, Field', Row
 use Rattle.dl_term.specs.declared.syntax.Formula.{Formula, True, False, Eq, Lt, Le, Not', And', Or', Implies', All', Exists', Each', Any', more_of-Formula as one_formula, end_of-Formula as end_formula}
 use Rattle.dl_forms.specs.Table.{NameTable as Names}
 use Rattle.dl_forms.specs.declared.scope.Scope.{Scope}
+use Rattle.dl_forms.specs.declared.scope.Kind.TheVariants.{Whole}
 use Rattle.dl_model.specs.declared.protocol.Instances.{Instances}
 use Rattle.dl_model.specs.declared.protocol.Protocol.{Protocol}
 use Rattle.dl_model.specs.declared.protocol.FieldDecl.{FieldDecl}
@@ -40,6 +41,10 @@ number v = tree.Num v no_place
 
 abbrev pub form : Text → List Tree → Tree
 form word parts = tree.List (symbol word ∷ parts) no_place
+
+-- a scope that has these labels, and no other name
+abbrev pub of_labels : Option ℕ → List ℕ → Scope
+of_labels own labels = record { vars = []; messages = []; words = []; labels = labels; own = own; kind = Whole; declared = [] }
 
 module _ (names : Names) (scope : Scope) (inst : Instances) where
   abbrev pub name : ℕ → Tree

@@ -1,9 +1,9 @@
 //! Terms and formulas of trees.
 
 ghost use Rattle.std.specs.Prelude.{◌≡◌, IfOk, IfErr, [], None};
-ghost use Rattle.dl_forms.specs.Judge.{first_fault};
+ghost use Rattle.dl_forms.specs.Judge.{fault, first_fault};
 ghost use Rattle.dl_forms.specs.Scope.{context_of};
-ghost use Rattle.dl_forms.specs.Read.{IsFormed, IsFault, Means, MeansTerm};
+ghost use Rattle.dl_forms.specs.Read.{IsFormed, IsFault, Means, MeansTerm, ReadsTerm, ReadsFormula, names_stage};
 ghost use Rattle.dl_forms.specs.Naming.{names_in};
 ghost use Rattle.dl_forms.specs.Numbered.{AreNumbered};
 ghost use Rattle.dl_forms.specs.Table.{numbered, all_marked, Extends};
@@ -23,7 +23,41 @@ use dl_term::{Formula, Term};
 use dl_tree::Tree;
 use std::alloc::Global;
 
-// The same, where each name of the tree has its number.
+/// The term that a tree is, where each of its names has its number, and its form was looked at. A refusal is
+/// the first fault of the stage of names: rule 10, 11, 14, 15 or 16, each at its place. Besides, want of memory
+/// is answered.
+pub fn term_of(
+    alloc: Global,
+    names: &Names,
+    scope: &Scope,
+    inst: &Instances,
+    tree: &Tree,
+) -> Result<Term, FormFault>
+    requires { IsFormed scope.now inst.now }
+    ensures ok { IfOk result (λ term. ReadsTerm names.now scope.now inst.now [] tree.now term) }
+    ensures err { IfErr result (λ e. IsFault (fault tree.now (names_stage names.now scope.now inst.now []) Position.Term) e) }
+{
+    term(alloc, &Around { names, scope, inst }, &Bound::Nothing, tree)
+}
+
+/// The formula that a tree is, where each of its names has its number, and its form was looked at. A refusal is
+/// the first fault of the stage of names: rule 10, 11, 13, 14, 15 or 16, each at its place. Besides, want of
+/// memory is answered. Nothing is marked.
+pub fn formula_of(
+    alloc: Global,
+    names: &Names,
+    scope: &Scope,
+    inst: &Instances,
+    tree: &Tree,
+) -> Result<Formula, FormFault>
+    requires { IsFormed scope.now inst.now }
+    ensures ok { IfOk result (λ formula. ReadsFormula names.now scope.now inst.now [] tree.now formula) }
+    ensures err { IfErr result (λ e. IsFault (fault tree.now (names_stage names.now scope.now inst.now []) Position.Formula) e) }
+{
+    formula(alloc, &Around { names, scope, inst }, &Bound::Nothing, tree)
+}
+
+// The term of a tree, where each of its names has its number.
 #[tactic(auto, unfolding(crate::specs::Judge::first_fault))]
 fn numbered_term(
     alloc: Global,
@@ -40,10 +74,10 @@ fn numbered_term(
     if let Some(place) = form_fault(Position::Term, tree) {
         return Err(FormFault::At { rule: 10, place });
     }
-    term(alloc, &Around { names, scope, inst }, &Bound::Nothing, tree)
+    term_of(alloc, names, scope, inst, tree)
 }
 
-// The same, where each name of the tree has its number.
+// The formula of a tree, where each of its names has its number.
 #[tactic(auto, unfolding(crate::specs::Judge::first_fault))]
 fn numbered_formula(
     alloc: Global,
@@ -60,7 +94,7 @@ fn numbered_formula(
     if let Some(place) = form_fault(Position::Formula, tree) {
         return Err(FormFault::At { rule: 10, place });
     }
-    formula(alloc, &Around { names, scope, inst }, &Bound::Nothing, tree)
+    formula_of(alloc, names, scope, inst, tree)
 }
 
 /// The term that a tree is, by what may be named at its place.
@@ -91,8 +125,8 @@ pub fn read_term(
 ///
 /// The names of the tree that are new get their numbers, in the order in which they stand, and those that
 /// its quantifiers bind are marked so. The numbers are kept also where the tree is refused. A refusal is
-/// the first fault of the tree: rule 10 where it is of no form, and else 11, 13, 15 or 16, each at its
-/// place. Besides, want of memory is answered.
+/// the first fault of the tree: rule 10 where it is of no form, and else 11, 13, 14, 15 or 16, each at its
+/// place. Rule 14 comes only where the scope's kind isn't `Kind::Whole`. Besides, want of memory is answered.
 pub fn read_formula(
     alloc: Global,
     names: &mut Names,
@@ -118,9 +152,9 @@ pub fn read_formula(
     }
 }
 
-/// Marks the names that quantifiers of a formula bind.
+/// Notes that quantifiers have bound the names that those of the formula bind.
 #[tactic(auto, unfolding(dl_term::specs::Syntax::opened), using(crate::proofs::TableLemmas::marks))]
-fn mark_bound(names: &mut Names, formula: &Formula)
+pub fn mark_bound(names: &mut Names, formula: &Formula)
     ensures { names.new ≡ all_marked names.old (bound_names formula.now) }
 {
     match formula {

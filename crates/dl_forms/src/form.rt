@@ -1,6 +1,6 @@
 //! The forms that each position allows, and the first fault of form.
 
-ghost use Rattle.std.specs.Prelude.{◌≡◌, ◌∷◌, [], None, Some, length, MatchOption};
+ghost use Rattle.std.specs.Prelude.{◌≡◌, ◌∷◌, [], None, Some, is_some, length, MatchOption};
 ghost use Rattle.dl_forms.specs.Form.{head_of};
 ghost use Rattle.dl_forms.specs.Notation.{term_forms, formula_forms, forms, form_with};
 ghost use Rattle.dl_forms.specs.Judge.{fits_number, fits_symbol, is_name, fault};
@@ -110,6 +110,20 @@ fn formula_form(head: Head, count: usize) -> Option<&'static [Position]>
     }
 }
 
+/// Whether a term that begins with the word has a form with so many parts.
+pub(crate) fn is_term_form(head: Head, count: usize) -> bool
+    ensures { result ≡ is_some (form_with count (term_forms head)) }
+{
+    term_form(head, count).is_some()
+}
+
+/// Whether a formula that begins with the word has a form with so many parts.
+pub(crate) fn is_formula_form(head: Head, count: usize) -> bool
+    ensures { result ≡ is_some (form_with count (formula_forms head)) }
+{
+    formula_form(head, count).is_some()
+}
+
 /// What each part behind the head has to be, in the form of the position with so many parts.
 fn form(position: Position, head: Head, count: usize) -> Option<&'static [Position]>
     ensures { MatchOption result (form_with count (forms position head) ≡ None) (λ chosen. form_with count (forms position head) ≡ Some chosen.now) }
@@ -150,7 +164,8 @@ fn fits_number(position: Position, value: i64) -> bool
     }
 }
 
-pub(crate) fn is_name(name: &Name) -> bool
+/// Whether a symbol is a name: whether it begins with a letter.
+pub fn is_name(name: &Name) -> bool
     ensures { result ≡ is_name name.now }
 {
     match name.as_str().as_bytes().first() {

@@ -2,14 +2,15 @@
 
 ghost use Rattle.std.specs.Prelude.{◌≡◌, IfOk, IfErr, IfSome, IfNone, None, Some, ◌∷◌, [], false};
 ghost use Rattle.dl_forms.specs.Context.{is_among};
-ghost use Rattle.dl_forms.specs.Judge.{fault};
+ghost use Rattle.dl_forms.specs.Judge.{fault, is_plain, is_limited};
 ghost use Rattle.dl_forms.specs.Scope.{bindings, taken, text_at};
 ghost use Rattle.dl_forms.specs.Read.{IsFormed, IsFault, ReadsPair, ReadsFormula, ReadsFormulaForm, ReadsFormulas, BindsVariable, BindsMessage, ReadsQuantified, ReadsOverMessages, quantified_fault, messages_fault, names_stage, pair_fault, formulas_fault, list_formula_fault};
 
 use crate::around::{Around, label, tag};
 use crate::fault::FormFault;
-use crate::form::is_name;
+use crate::form::{is_formula_form, is_name};
 use crate::head::{Head, head_of};
+use crate::kind::breaks_kind;
 use crate::names::is;
 use crate::position::Position;
 use crate::read::term;
@@ -307,7 +308,8 @@ fn universal(
     parts: &[Tree],
     place: Place,
 ) -> Result<Formula, FormFault>
-    requires { IsFormed around.now.scope.now around.now.inst.now }
+    requires formed { IsFormed around.now.scope.now around.now.inst.now }
+    requires allowed { is_plain around.now.scope.now.kind ≡ false }
     ensures ok { IfOk result (λ formula. ReadsFormulaForm around.now.names.now around.now.scope.now around.now.inst.now (bindings bound.now) place Head.All parts.now formula) }
     ensures err { IfErr result (λ e. IsFault (list_formula_fault around.now.names.now around.now.scope.now around.now.inst.now (bindings bound.now) place Head.All parts.now) e) }
 {
@@ -325,7 +327,8 @@ fn existential(
     parts: &[Tree],
     place: Place,
 ) -> Result<Formula, FormFault>
-    requires { IsFormed around.now.scope.now around.now.inst.now }
+    requires formed { IsFormed around.now.scope.now around.now.inst.now }
+    requires allowed { is_plain around.now.scope.now.kind ≡ false }
     ensures ok { IfOk result (λ formula. ReadsFormulaForm around.now.names.now around.now.scope.now around.now.inst.now (bindings bound.now) place Head.Some parts.now formula) }
     ensures err { IfErr result (λ e. IsFault (list_formula_fault around.now.names.now around.now.scope.now around.now.inst.now (bindings bound.now) place Head.Some parts.now) e) }
 {
@@ -407,7 +410,7 @@ fn bound_message(
 
 /// The parts of a quantifier over messages.
 #[cycle(formula)]
-#[tactic(auto, using(crate::proofs::FormulaLemmas::lists))]
+#[tactic(auto, using(crate::proofs::MessageLemmas::each))]
 fn for_each(
     alloc: Global,
     around: &Around,
@@ -415,7 +418,8 @@ fn for_each(
     parts: &[Tree],
     place: Place,
 ) -> Result<Formula, FormFault>
-    requires { IsFormed around.now.scope.now around.now.inst.now }
+    requires formed { IsFormed around.now.scope.now around.now.inst.now }
+    requires allowed { is_limited around.now.scope.now.kind ≡ false }
     ensures ok { IfOk result (λ formula. ReadsFormulaForm around.now.names.now around.now.scope.now around.now.inst.now (bindings bound.now) place Head.Each parts.now formula) }
     ensures err { IfErr result (λ e. IsFault (list_formula_fault around.now.names.now around.now.scope.now around.now.inst.now (bindings bound.now) place Head.Each parts.now) e) }
 {
@@ -430,7 +434,7 @@ fn for_each(
 
 /// The parts of a quantifier over messages.
 #[cycle(formula)]
-#[tactic(auto, using(crate::proofs::FormulaLemmas::lists))]
+#[tactic(auto, using(crate::proofs::MessageLemmas::each))]
 fn for_any(
     alloc: Global,
     around: &Around,
@@ -438,7 +442,8 @@ fn for_any(
     parts: &[Tree],
     place: Place,
 ) -> Result<Formula, FormFault>
-    requires { IsFormed around.now.scope.now around.now.inst.now }
+    requires formed { IsFormed around.now.scope.now around.now.inst.now }
+    requires allowed { is_limited around.now.scope.now.kind ≡ false }
     ensures ok { IfOk result (λ formula. ReadsFormulaForm around.now.names.now around.now.scope.now around.now.inst.now (bindings bound.now) place Head.Any parts.now formula) }
     ensures err { IfErr result (λ e. IsFault (list_formula_fault around.now.names.now around.now.scope.now around.now.inst.now (bindings bound.now) place Head.Any parts.now) e) }
 {
@@ -466,6 +471,12 @@ fn list_formula(
     ensures ok { IfOk result (λ formula. ReadsFormulaForm around.now.names.now around.now.scope.now around.now.inst.now (bindings bound.now) place head parts.now formula) }
     ensures err { IfErr result (λ e. IsFault (list_formula_fault around.now.names.now around.now.scope.now around.now.inst.now (bindings bound.now) place head parts.now) e) }
 {
+    if !is_formula_form(head, parts.len()) {
+        return Err(FormFault::At { rule: 10, place });
+    }
+    if breaks_kind(around.scope.kind, head, parts) {
+        return Err(FormFault::At { rule: 14, place });
+    }
     match head {
         Head::Eq => equal(alloc, around, bound, parts, place),
         Head::Lt => less(alloc, around, bound, parts, place),

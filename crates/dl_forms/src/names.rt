@@ -12,14 +12,14 @@ use dl_term::{Sort, Term};
 use dl_tree::Name;
 
 /// Whether this is the name's text.
-pub(crate) fn is(name: &Name, text: &[u8]) -> bool
+pub fn is(name: &Name, text: &[u8]) -> bool
     ensures { result ≡ bytes_eq name.now text.now }
 {
     name.as_str().as_bytes() == text
 }
 
 /// Whether the number has this text.
-pub(crate) fn has_text(names: &Names, sym: u32, name: &Name) -> bool
+pub fn has_text(names: &Names, sym: u32, name: &Name) -> bool
     ensures { result ≡ bytes_eq name.now (text_at names.now sym) }
 {
     match names.text(sym) {

@@ -26,10 +26,11 @@ fn is_named(position: Position) -> bool
     }
 }
 
-/// Numbers the names of a tree, in the order in which they stand.
+/// Numbers the names of a tree, in the order in which they stand. Its only error is want of memory, and
+/// then the first of them have their numbers.
 #[cycle(number)]
 #[tactic(auto, using(crate::proofs::NamingLemmas::trees))]
-pub(crate) fn number_names(
+pub fn number_names(
     alloc: Global,
     names: &mut Names,
     position: Position,

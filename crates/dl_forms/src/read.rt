@@ -3,7 +3,7 @@
 ghost use Rattle.std.specs.Prelude.{◌≡◌, IfOk, IfErr, None, Some, ◌∷◌, [], false};
 ghost use Rattle.dl_forms.specs.Word.{head_of_part};
 ghost use Rattle.dl_forms.specs.Notation.{term_forms};
-ghost use Rattle.dl_forms.specs.Judge.{fault, at, symbol_rule};
+ghost use Rattle.dl_forms.specs.Judge.{fault, at, symbol_rule, is_plain, is_limited, breaks_at, breaks_read};
 ghost use Rattle.dl_forms.specs.Read.{IsFault, IsFormed, ReadsTerm, ReadsLabel, ReadsArgument, ReadsForm, ReadsPair, names_stage, list_fault, pair_fault};
 ghost use Rattle.dl_forms.specs.Show.{bare};
 ghost use Rattle.dl_forms.specs.Scope.{bindings, first_named, variables, words_of};
@@ -13,8 +13,9 @@ ghost use Rattle.dl_tree.specs.declared.tree.Tree.TheVariants as tree;
 
 use crate::around::{Around, field, is_flat, is_row, label, message, variable};
 use crate::fault::FormFault;
-use crate::form::is_name;
+use crate::form::{is_name, is_term_form};
 use crate::head::{Head, head_of};
+use crate::kind::breaks_kind;
 use crate::names::word_in;
 use crate::position::Position;
 use crate::scope::{Bound, Scope};
@@ -185,7 +186,8 @@ fn choice(
 /// The parts of the length of a soup.
 #[tactic(auto, using(crate::proofs::PartLemmas::parts))]
 fn length(around: &Around, bound: &Bound, parts: &[Tree], place: Place) -> Result<Term, FormFault>
-    requires { IsFormed around.now.scope.now around.now.inst.now }
+    requires formed { IsFormed around.now.scope.now around.now.inst.now }
+    requires allowed { is_limited around.now.scope.now.kind ≡ false }
     ensures ok { IfOk result (λ term. ReadsForm around.now.names.now around.now.scope.now around.now.inst.now (bindings bound.now) place Head.Len parts.now term) }
     ensures err { IfErr result (λ e. IsFault (list_fault around.now.names.now around.now.scope.now around.now.inst.now (bindings bound.now) place Head.Len parts.now) e) }
 {
@@ -207,7 +209,8 @@ fn message_part(
     parts: &[Tree],
     place: Place,
 ) -> Result<Term, FormFault>
-    requires { term_forms (head_of_part part) ≡ (Position.Message ∷ []) ∷ [] }
+    requires forms { term_forms (head_of_part part) ≡ (Position.Message ∷ []) ∷ [] }
+    requires allowed { is_plain around.now.scope.now.kind ≡ false }
     ensures ok { IfOk result (λ term. ReadsForm around.now.names.now around.now.scope.now around.now.inst.now (bindings bound.now) place (head_of_part part) parts.now term) }
     ensures err { IfErr result (λ e. IsFault (list_fault around.now.names.now around.now.scope.now around.now.inst.now (bindings bound.now) place (head_of_part part) parts.now) e) }
 {
@@ -256,6 +259,7 @@ fn message_argument(
     parts: &[Tree],
     place: Place,
 ) -> Result<Term, FormFault>
+    requires { is_plain around.now.scope.now.kind ≡ false }
     ensures ok { IfOk result (λ term. ReadsForm around.now.names.now around.now.scope.now around.now.inst.now (bindings bound.now) place Head.Arg parts.now term) }
     ensures err { IfErr result (λ e. IsFault (list_fault around.now.names.now around.now.scope.now around.now.inst.now (bindings bound.now) place Head.Arg parts.now) e) }
 {
@@ -287,6 +291,12 @@ fn list_term(
     ensures ok { IfOk result (λ term. ReadsForm around.now.names.now around.now.scope.now around.now.inst.now (bindings bound.now) place head parts.now term) }
     ensures err { IfErr result (λ e. IsFault (list_fault around.now.names.now around.now.scope.now around.now.inst.now (bindings bound.now) place head parts.now) e) }
 {
+    if !is_term_form(head, parts.len()) {
+        return Err(FormFault::At { rule: 10, place });
+    }
+    if breaks_kind(around.scope.kind, head, parts) {
+        return Err(FormFault::At { rule: 14, place });
+    }
     if is_wide(around, head, parts) {
         return Err(FormFault::At { rule: 16, place });
     }
@@ -329,7 +339,8 @@ fn field_read(
     field_name: &Tree,
     place: Place,
 ) -> Result<Term, FormFault>
-    requires { IsFormed around.now.scope.now around.now.inst.now }
+    requires formed { IsFormed around.now.scope.now around.now.inst.now }
+    requires allowed { breaks_at around.now.scope.now.kind node.now ≡ false }
     ensures ok { IfOk result (λ term. ReadsForm around.now.names.now around.now.scope.now around.now.inst.now (bindings bound.now) place Head.Get (label_name.now ∷ field_name.now ∷ node.now ∷ []) term) }
     ensures err { IfErr result (λ e. IsFault (list_fault around.now.names.now around.now.scope.now around.now.inst.now (bindings bound.now) place Head.Get (label_name.now ∷ field_name.now ∷ node.now ∷ [])) e) }
 {
@@ -357,7 +368,8 @@ fn get(
     parts: &[Tree],
     place: Place,
 ) -> Result<Term, FormFault>
-    requires { IsFormed around.now.scope.now around.now.inst.now }
+    requires formed { IsFormed around.now.scope.now around.now.inst.now }
+    requires allowed { breaks_read around.now.scope.now.kind parts.now ≡ false }
     ensures ok { IfOk result (λ term. ReadsForm around.now.names.now around.now.scope.now around.now.inst.now (bindings bound.now) place Head.Get parts.now term) }
     ensures err { IfErr result (λ e. IsFault (list_fault around.now.names.now around.now.scope.now around.now.inst.now (bindings bound.now) place Head.Get parts.now) e) }
 {

@@ -18,7 +18,18 @@ pub struct Marks {
     pub other: bool,
 }
 
-/// What may be named at a place, by the numbers of the names.
+/// What a formula or a term may hold.
+#[derive(Clone, Copy, Debug, Drop)]
+pub enum Kind {
+    /// Everything.
+    Whole,
+    /// Reads of fields at the node `me` alone, no length of a soup, and no quantifier over messages.
+    Local,
+    /// No read, no length, no part of a message and no quantifier.
+    Plain,
+}
+
+/// What may be named at a place, by the numbers of the names, and what may not be bound there.
 #[derive(Drop)]
 pub struct Scope {
     /// The variables with their sorts.
@@ -31,6 +42,11 @@ pub struct Scope {
     pub labels: Items<u32>,
     /// The protocol of the label `self`, by its position, or None where nothing may say `self`.
     pub own: Option<u8>,
+    /// What the formula or term may hold.
+    pub kind: Kind,
+    /// The names of further declared things, which no quantifier may bind: hooks, worlds, invariants and
+    /// procedures.
+    pub declared: Items<u32>,
 }
 
 /// The names that quantifiers around a place bind, from the innermost.

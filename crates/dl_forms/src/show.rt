@@ -3,12 +3,12 @@
 ghost use Rattle.std.specs.Prelude.{◌≡◌, ◌≤◌, ◌∷◌, ◌++◌, [], List, length, IfOk, codes, pos};
 ghost use Rattle.std.specs.Option.{option_copied};
 ghost use Rattle.dl_forms.specs.Scope.{text_at};
-ghost use Rattle.dl_forms.specs.Show.{symbol, number, no_place, name, protocol_at, label, field, tag, message_part, shown_term, shown_formula};
+ghost use Rattle.dl_forms.specs.Show.{of_labels, symbol, number, no_place, name, protocol_at, label, field, tag, message_part, shown_term, shown_formula};
 ghost use Rattle.dl_tree.specs.declared.tree.Tree.{Tree};
 ghost use Rattle.dl_tree.specs.declared.tree.Tree.TheVariants as tree;
 
 use crate::around::{Around, protocol_number};
-use crate::scope::Scope;
+use crate::scope::{Kind, Scope};
 use crate::table::Names;
 use dl_model::{FieldDecl, Instances, Protocol};
 use dl_term::{Formula, Lab, Part, Term};
@@ -304,28 +304,67 @@ fn shown_formula(alloc: Global, around: &Around, formula: &Formula) -> Result<Tr
     }
 }
 
-/// The tree of a term.
+/// A scope with these labels and no other name.
+fn of_labels(alloc: Global, own: Option<u8>, labels: &[u32]) -> Result<Scope, AllocError>
+    ensures { IfOk result (λ scope. scope ≡ of_labels own labels.now) }
+{
+    Ok(Scope {
+        vars: Items::new(alloc),
+        messages: Items::new(alloc),
+        words: Items::new(alloc),
+        labels: Items::from_slice(alloc, labels)?,
+        own,
+        kind: Kind::Whole,
+        declared: Items::new(alloc),
+    })
+}
+
+/// The tree of a term, without places. `labels` are the names of the labels in the file's order, and `own` is
+/// the protocol of the label `self`. A number that names nothing is shown as a symbol without text. Its only
+/// error is want of memory.
 pub fn show_term(
     alloc: Global,
     names: &Names,
-    scope: &Scope,
     inst: &Instances,
+    own: Option<u8>,
+    labels: &[u32],
     term: &Term,
 ) -> Result<Tree, AllocError>
-    ensures { IfOk result (λ t. t ≡ shown_term names.now scope.now inst.now term.now) }
+    ensures { IfOk result (λ t. t ≡ shown_term names.now (of_labels own labels.now) inst.now term.now) }
 {
-    shown_term(alloc, &Around { names, scope, inst }, term)
+    let scope = of_labels(alloc, own, labels)?;
+    shown_term(
+        alloc,
+        &Around {
+            names,
+            scope: &scope,
+            inst,
+        },
+        term,
+    )
 }
 
-/// The tree of a formula.
+/// The tree of a formula, without places. `labels` are the names of the labels in the file's order, and `own`
+/// is the protocol of the label `self`. A number that names nothing is shown as a symbol without text. Its only
+/// error is want of memory.
 pub fn show_formula(
     alloc: Global,
     names: &Names,
-    scope: &Scope,
     inst: &Instances,
+    own: Option<u8>,
+    labels: &[u32],
     formula: &Formula,
 ) -> Result<Tree, AllocError>
-    ensures { IfOk result (λ t. t ≡ shown_formula names.now scope.now inst.now formula.now) }
+    ensures { IfOk result (λ t. t ≡ shown_formula names.now (of_labels own labels.now) inst.now formula.now) }
 {
-    shown_formula(alloc, &Around { names, scope, inst }, formula)
+    let scope = of_labels(alloc, own, labels)?;
+    shown_formula(
+        alloc,
+        &Around {
+            names,
+            scope: &scope,
+            inst,
+        },
+        formula,
+    )
 }

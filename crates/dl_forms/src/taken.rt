@@ -132,6 +132,7 @@ fn is_declared(around: &Around, name: &Name) -> bool
         || is_protocol(around.names, around.inst.protocols.as_slice(), name)
         || is_word(around.names, around.scope.words.as_slice(), name)
         || is_listed(around.names, around.scope.labels.as_slice(), name)
+        || is_listed(around.names, around.scope.declared.as_slice(), name)
 }
 
 /// Whether the name may not be bound, by a quantifier or by another variable, quantifiers around it aside.

@@ -10,3 +10,5 @@ pub mod FormedParts
 pub mod Clean
 pub mod Captured
 pub mod FileNames
+mod Listing
+mod Tried

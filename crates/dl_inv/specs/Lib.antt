@@ -7,3 +7,4 @@ pub mod Obligations
 pub mod Duties
 pub mod Taken
 pub mod Examples
+pub mod Moves

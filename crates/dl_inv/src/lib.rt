@@ -2,8 +2,15 @@
 #![tactic(auto)]
 
 mod laws;
+mod listed;
+mod touched;
 
 pub use laws::{
     file_names_may_be_taken, injection_is_told, nothing_is_captured, obligations_are_clean,
     obligations_compute,
 };
+pub use listed::duties;
+pub use touched::{Move, touches};
+
+#[cfg(test)]
+mod tests;

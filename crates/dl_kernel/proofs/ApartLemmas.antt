@@ -1,12 +1,15 @@
--- Formulas that tell their names apart still do so with new terms whose names are known.
-use Rattle.std.proofs.Common.{◌≡◌, ℕ, Bool, true, false, not, ◌&&◌, ◌||◌, ◌==◌, if◌then◌else◌, List, ◌∷◌, Option, Some, None, unwrap_or, refl, sym}
+-- Formulas that tell their names apart still do so among one more new name, and with terms whose names are known.
+use Rattle.std.proofs.Common.{◌≡◌, ℕ, Bool, true, false, not, ◌&&◌, ◌||◌, ◌==◌, if◌then◌else◌, List, [], ◌∷◌, ◌++◌, map, Option, Some, None, unwrap_or, refl, sym, ◌∙◌, ap, subst, eq-eqb, eqb-true, arith}
 use Rattle.dl_term.specs.declared.syntax.Term.{Term, Num, Word, Var, Field', Row', Len, Msg, Add', Sub', Mul', If', more_of-Term as one, end_of-Term as end}
 use Rattle.dl_term.specs.declared.syntax.Part.{Part}
 use Rattle.dl_term.specs.declared.syntax.Formula.{Formula, True, False, Eq, Lt, Le, Not', And', Or', Implies', All', Exists', Each', Any', more_of-Formula as one_formula, end_of-Formula as end_formula}
 use Rattle.dl_term.specs.Syntax.{opened}
+use Rattle.dl_term.specs.Measures.{has_variable, has_message, is_free_variable, is_free_message}
 use Rattle.dl_model.specs.Sorts.{has}
+use Rattle.dl_model.specs.Spoken.{bound_names}
 use Rattle.dl_subst.specs.Change.{Change, inside, changed_term, changed}
 use Rattle.dl_sequent.specs.Clean.{knows, is_unknown, is_told_apart}
+use Rattle.dl_kernel.proofs.CleanLemmas.{has-both}
 
 pub left : (a b : Bool) → (a && b) ≡ true → a ≡ true
 left true b h = refl
@@ -20,6 +23,149 @@ pub both : (a b : Bool) → a ≡ true → b ≡ true → (a && b) ≡ true
 both true true p q = refl
 both true false p q = q
 both false b p q = p
+
+or-first : (a b : Bool) → (a || b) ≡ false → a ≡ false
+or-first true b h = cc
+or-first false b h = refl
+
+or-next : (a b : Bool) → (a || b) ≡ false → b ≡ false
+or-next true b h = cc
+or-next false b h = h
+
+-- ---- one more name, which a formula doesn't mention
+
+-- the same names are known, but for x
+pub record SameBut (x : ℕ) (V M W N : List ℕ) : Type 0 where
+  pub variables : (z : ℕ) → (z == x) ≡ false → has V z ≡ has W z
+  pub messages : (z : ℕ) → (z == x) ≡ false → has M z ≡ has N z
+
+more-variable : (x y : ℕ) (V M W N : List ℕ) → SameBut x V M W N → SameBut x (y ∷ V) M (y ∷ W) N
+more-variable x y V M W N h = record { variables = λ z e. ap (λ b. (z == y) || b) (h.variables z e); messages = h.messages }
+
+more-message : (x y : ℕ) (V M W N : List ℕ) → SameBut x V M W N → SameBut x V (y ∷ M) W (y ∷ N)
+more-message x y V M W N h = record { variables = h.variables; messages = λ z e. ap (λ b. (z == y) || b) (h.messages z e) }
+
+knows-same : (t : Term) (x : ℕ) (V M W N : List ℕ) → SameBut x V M W N → has_variable t x ≡ false → has_message t x ≡ false → knows V M t ≡ knows W N t
+knows-same (Num v) x V M W N h p q = refl
+knows-same (Word sym v) x V M W N h p q = refl
+knows-same (Var sym) x V M W N h p q = h.variables sym p
+knows-same (Field' label field _ (one node end)) x V M W N h p q = knows-same node x V M W N h p q
+knows-same (Row' label field _ (one node end) _ (one index end)) x V M W N h p q =
+    let a = knows-same node x V M W N h (or-first _ _ p) (or-first _ _ q) in
+    let b = knows-same index x V M W N h (or-next _ _ p) (or-next _ _ q) in
+    λ i. a i && b i
+knows-same (Len label) x V M W N h p q = refl
+knows-same (Msg msg part) x V M W N h p q = h.messages msg q
+knows-same (Add' _ (one s end) _ (one t end)) x V M W N h p q =
+    let a = knows-same s x V M W N h (or-first _ _ p) (or-first _ _ q) in
+    let b = knows-same t x V M W N h (or-next _ _ p) (or-next _ _ q) in
+    λ i. a i && b i
+knows-same (Sub' _ (one s end) _ (one t end)) x V M W N h p q =
+    let a = knows-same s x V M W N h (or-first _ _ p) (or-first _ _ q) in
+    let b = knows-same t x V M W N h (or-next _ _ p) (or-next _ _ q) in
+    λ i. a i && b i
+knows-same (Mul' _ (one s end) _ (one t end)) x V M W N h p q =
+    let a = knows-same s x V M W N h (or-first _ _ p) (or-first _ _ q) in
+    let b = knows-same t x V M W N h (or-next _ _ p) (or-next _ _ q) in
+    λ i. a i && b i
+knows-same (If' _ (one s end) _ (one t end) _ (one u end) _ (one v end)) x V M W N h p q =
+    let p1 = or-first (has_variable s x || has_variable t x) (has_variable u x || has_variable v x) p in
+    let p2 = or-next (has_variable s x || has_variable t x) (has_variable u x || has_variable v x) p in
+    let q1 = or-first (has_message s x || has_message t x) (has_message u x || has_message v x) q in
+    let q2 = or-next (has_message s x || has_message t x) (has_message u x || has_message v x) q in
+    let a = knows-same s x V M W N h (or-first _ _ p1) (or-first _ _ q1) in
+    let b = knows-same t x V M W N h (or-next _ _ p1) (or-next _ _ q1) in
+    let c = knows-same u x V M W N h (or-first _ _ p2) (or-first _ _ q2) in
+    let d = knows-same v x V M W N h (or-next _ _ p2) (or-next _ _ q2) in
+    λ i. (a i && b i) && (c i && d i)
+
+-- the formula has the name nowhere
+pub record IsAbsent (x : ℕ) (f : Formula) : Type 0 where
+  pub variable : is_free_variable f x ≡ false
+  pub message : is_free_message f x ≡ false
+  pub bound : has (bound_names f) x ≡ false
+
+absent-left : (x : ℕ) (f g : Formula) (p q p' q' : Bool) → (is_free_variable f x || p) ≡ false → (is_free_message f x || q) ≡ false → has (bound_names f ++ bound_names g) x ≡ false → IsAbsent x f
+absent-left x f g p q p' q' v m b = record {
+  variable = or-first _ _ v;
+  message = or-first _ _ m;
+  bound = or-first (has (bound_names f) x) (has (bound_names g) x) (has-both (bound_names f) (bound_names g) x ∙ b);
+}
+
+absent-right : (x : ℕ) (f g : Formula) → (is_free_variable f x || is_free_variable g x) ≡ false → (is_free_message f x || is_free_message g x) ≡ false → has (bound_names f ++ bound_names g) x ≡ false → IsAbsent x g
+absent-right x f g v m b = record {
+  variable = or-next (is_free_variable f x) _ v;
+  message = or-next (is_free_message f x) _ m;
+  bound = or-next (has (bound_names f) x) (has (bound_names g) x) (has-both (bound_names f) (bound_names g) x ∙ b);
+}
+
+sym-eqb : (x y : ℕ) → (x == y) ≡ (y == x)
+sym-eqb x y = grind arith
+
+not-below : (y x : ℕ) (free : Bool) → (not (y == x) && free) ≡ false → (x == y) ≡ false → free ≡ false
+not-below y x free h ne = ap (λ b. not b && free) (sym (sym-eqb y x ∙ ne)) ∙ h
+
+told-two : (f g f' g' : Bool) → f ≡ f' → g ≡ g' → (f && g) ≡ (f' && g')
+told-two f g f' g' p q = λ i. p i && q i
+
+pub told-same : (f : Formula) (x : ℕ) (V M W N : List ℕ) → SameBut x V M W N → IsAbsent x f → is_told_apart V M f ≡ is_told_apart W N f
+told-same True x V M W N h a = refl
+told-same False x V M W N h a = refl
+told-same (Eq s t) x V M W N h a =
+    let p = knows-same s x V M W N h (or-first _ _ a.variable) (or-first _ _ a.message) in
+    let q = knows-same t x V M W N h (or-next _ _ a.variable) (or-next _ _ a.message) in
+    λ i. p i && q i
+told-same (Lt s t) x V M W N h a =
+    let p = knows-same s x V M W N h (or-first _ _ a.variable) (or-first _ _ a.message) in
+    let q = knows-same t x V M W N h (or-next _ _ a.variable) (or-next _ _ a.message) in
+    λ i. p i && q i
+told-same (Le s t) x V M W N h a =
+    let p = knows-same s x V M W N h (or-first _ _ a.variable) (or-first _ _ a.message) in
+    let q = knows-same t x V M W N h (or-next _ _ a.variable) (or-next _ _ a.message) in
+    λ i. p i && q i
+told-same (Not' _ (one_formula f end_formula)) x V M W N h a = told-same f x V M W N h (record { variable = a.variable; message = a.message; bound = a.bound })
+told-same (And' _ (one_formula f end_formula) _ (one_formula g end_formula)) x V M W N h a =
+    let p = told-same f x V M W N h (absent-left x f g _ _ true true a.variable a.message a.bound) in
+    let q = told-same g x V M W N h (absent-right x f g a.variable a.message a.bound) in
+    λ i. p i && q i
+told-same (Or' _ (one_formula f end_formula) _ (one_formula g end_formula)) x V M W N h a =
+    let p = told-same f x V M W N h (absent-left x f g _ _ true true a.variable a.message a.bound) in
+    let q = told-same g x V M W N h (absent-right x f g a.variable a.message a.bound) in
+    λ i. p i && q i
+told-same (Implies' _ (one_formula f end_formula) _ (one_formula g end_formula)) x V M W N h a =
+    let p = told-same f x V M W N h (absent-left x f g _ _ true true a.variable a.message a.bound) in
+    let q = told-same g x V M W N h (absent-right x f g a.variable a.message a.bound) in
+    λ i. p i && q i
+told-same (All' y _ (one_formula f end_formula)) x V M W N h a =
+    let ne : (x == y) ≡ false = or-first (x == y) (has (bound_names f) x) a.bound in
+    let back : (y == x) ≡ false = sym-eqb y x ∙ ne in
+    let p = told-same f x (y ∷ V) M (y ∷ W) N (more-variable x y V M W N h) (record { variable = not-below y x _ a.variable ne; message = a.message; bound = or-next (x == y) _ a.bound }) in
+    let u = h.variables y back in
+    let v = h.messages y back in
+    λ i. (not (u i) && not (v i)) && p i
+told-same (Exists' y _ (one_formula f end_formula)) x V M W N h a =
+    let ne : (x == y) ≡ false = or-first (x == y) (has (bound_names f) x) a.bound in
+    let back : (y == x) ≡ false = sym-eqb y x ∙ ne in
+    let p = told-same f x (y ∷ V) M (y ∷ W) N (more-variable x y V M W N h) (record { variable = not-below y x _ a.variable ne; message = a.message; bound = or-next (x == y) _ a.bound }) in
+    let u = h.variables y back in
+    let v = h.messages y back in
+    λ i. (not (u i) && not (v i)) && p i
+told-same (Each' y label tag _ (one_formula f end_formula)) x V M W N h a =
+    let ne : (x == y) ≡ false = or-first (x == y) (has (bound_names f) x) a.bound in
+    let back : (y == x) ≡ false = sym-eqb y x ∙ ne in
+    let p = told-same f x V (y ∷ M) W (y ∷ N) (more-message x y V M W N h) (record { variable = a.variable; message = not-below y x _ a.message ne; bound = or-next (x == y) _ a.bound }) in
+    let u = h.variables y back in
+    let v = h.messages y back in
+    λ i. (not (u i) && not (v i)) && p i
+told-same (Any' y label tag _ (one_formula f end_formula)) x V M W N h a =
+    let ne : (x == y) ≡ false = or-first (x == y) (has (bound_names f) x) a.bound in
+    let back : (y == x) ≡ false = sym-eqb y x ∙ ne in
+    let p = told-same f x V (y ∷ M) W (y ∷ N) (more-message x y V M W N h) (record { variable = a.variable; message = not-below y x _ a.message ne; bound = or-next (x == y) _ a.bound }) in
+    let u = h.variables y back in
+    let v = h.messages y back in
+    λ i. (not (u i) && not (v i)) && p i
+
+-- ---- changes
 
 -- What is known stays known where more is.
 pub record Within (V M W N : List ℕ) : Type 0 where

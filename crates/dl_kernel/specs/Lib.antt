@@ -5,3 +5,5 @@ pub mod Steps
 pub mod Outcome
 pub mod Opened
 pub mod Examples
+pub mod Seen
+pub mod Kinds

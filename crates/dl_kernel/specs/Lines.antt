@@ -6,6 +6,7 @@ use Rattle.dl_model.specs.declared.sequent.Hypothesis.{Hypothesis}
 use Rattle.dl_linear.specs.declared.certificate.Multiple.{Multiple}
 use Rattle.dl_linear.specs.declared.certificate.Certificate.{Certificate, Sum, Div}
 use Rattle.dl_linear.specs.declared.certificate.Certificate.TheBlock.{Use, Sum', Div', more_of-Certificate as one_cert, end_of-Certificate as end_cert, Row_of-Multiple as Multiples, more_of-Multiple as more, end_of-Multiple as none}
+use Rattle.dl_linear.specs.declared.line.Lines.{Lines}
 use Rattle.dl_linear.specs.Rows.{verdict}
 use Rattle.dl_linear.specs.Forms.{Sides, at_most, below, sides_of, lines_from, are_narrow}
 
@@ -40,6 +41,10 @@ abbrev mutual
   numbered_in facts none = []
   numbered_in facts (more factor c rest) = record { factor = factor; certificate = numbered facts c } ∷ numbered_in facts rest
 
+-- a part of a sum with the numbers of rows for the names
+abbrev pub renumbered : List Hypothesis → Multiple → Multiple
+renumbered facts part = record { factor = part.factor; certificate = numbered facts part.certificate }
+
 -- what is not used has no line, and isn't looked at
 abbrev pub if_used : Certificate → ℕ → Option Sides → Option Sides
 if_used cert name sides = if uses name cert then sides else None
@@ -53,6 +58,10 @@ abbrev pub refutes : List Hypothesis → Option Sides → Certificate → Bool
 refutes facts goal cert =
     are_narrow (rows_used cert facts goal)
     && is_none (verdict (length (lines_from (rows_used cert facts goal)).atoms) (lines_from (rows_used cert facts goal)).rows (numbered facts cert))
+
+-- the lines of the sides, where no number in them is too wide
+abbrev pub lines_if_narrow : List (Option Sides) → Option Lines
+lines_if_narrow all = if are_narrow all then Some (lines_from all) else None
 
 -- what the negation of a goal says of two terms
 abbrev pub denied_sides : Formula → Option Sides

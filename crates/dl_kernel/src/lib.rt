@@ -4,10 +4,23 @@
 //! the first one that is refused. A sequent is valid where none of its script's rules is.
 #![tactic(auto)]
 
+mod certificates;
+mod changes;
 mod fault;
 mod laws;
+mod made;
 mod parts;
+mod prover;
+mod quantifiers;
+mod reduce;
+mod rules;
+mod scope;
+mod sequents;
+#[cfg(test)]
+mod tests;
 
 pub use fault::KernelFault;
 pub use laws::{nothing_is_captured, rules_compute, scripts_prove};
 pub use parts::{Equation, Quantified, Two};
+pub use prover::replay;
+pub use scope::is_clean;

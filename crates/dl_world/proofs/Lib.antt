@@ -1,6 +1,6 @@
 mod Rests
 mod Marking
 mod Framing
-mod Injecting
+pub mod Injecting
 mod Shaping
 mod Tried

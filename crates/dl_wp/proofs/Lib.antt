@@ -1,3 +1,6 @@
+pub mod Chains
+pub mod Sizes
+pub mod Quantified
 pub mod Quiet
 pub mod Choosing
 pub mod Cells

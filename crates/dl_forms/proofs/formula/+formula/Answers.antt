@@ -22,10 +22,10 @@ pub implication-returns-clause-ok : goal.implication-returns-clause-ok
 implication-returns-clause-ok t c = reads_implication c.args.around.now.names.now c.args.around.now.scope.now c.args.around.now.inst.now (bindings c.args.bound.now) c.args.place c.args.parts.now _ _ c.in_ok-left.ensures.ok
 
 pub universal-returns-clause-ok : goal.universal-returns-clause-ok
-universal-returns-clause-ok t c = reads_universal c.args.around.now.names.now c.args.around.now.scope.now c.args.around.now.inst.now (bindings c.args.bound.now) c.args.place c.args.parts.now _ _ c.in_ok-sym.ensures.ok
+universal-returns-clause-ok t c = reads_universal c.args.around.now.names.now c.args.around.now.scope.now c.args.around.now.inst.now (bindings c.args.bound.now) c.args.place c.args.parts.now _ _ c.requires.allowed c.in_ok-sym.ensures.ok
 
 pub existential-returns-clause-ok : goal.existential-returns-clause-ok
-existential-returns-clause-ok t c = reads_existential c.args.around.now.names.now c.args.around.now.scope.now c.args.around.now.inst.now (bindings c.args.bound.now) c.args.place c.args.parts.now _ _ c.in_ok-sym.ensures.ok
+existential-returns-clause-ok t c = reads_existential c.args.around.now.names.now c.args.around.now.scope.now c.args.around.now.inst.now (bindings c.args.bound.now) c.args.place c.args.parts.now _ _ c.requires.allowed c.in_ok-sym.ensures.ok
 
 pub formula-returns-then-is-clause-ok : goal.formula-returns-then-is-clause-ok
 formula-returns-then-is-clause-ok t c =
@@ -39,10 +39,10 @@ formula-returns-then-is-2-clause-ok t c =
     subst (λ tree. ReadsFormula c.args.around.now.names.now c.args.around.now.scope.now c.args.around.now.inst.now (bindings c.args.bound.now) tree formula.False) (sym c.in-Sym.is) (reads_false c.args.around.now.names.now c.args.around.now.scope.now c.args.around.now.inst.now (bindings c.args.bound.now) c.in-Sym.name c.in-Sym.place other is)
 
 pub for_each-returns-clause-ok : goal.for_each-returns-clause-ok
-for_each-returns-clause-ok t c = reads_each c.args.around.now.names.now c.args.around.now.scope.now c.args.around.now.inst.now (bindings c.args.bound.now) c.args.place c.args.parts.now _ _ _ _ c.in_ok-msg.ensures.ok
+for_each-returns-clause-ok t c = reads_each c.args.around.now.names.now c.args.around.now.scope.now c.args.around.now.inst.now (bindings c.args.bound.now) c.args.place c.args.parts.now _ _ _ _ c.requires.allowed c.in_ok-msg.ensures.ok
 
 pub for_any-returns-clause-ok : goal.for_any-returns-clause-ok
-for_any-returns-clause-ok t c = reads_any c.args.around.now.names.now c.args.around.now.scope.now c.args.around.now.inst.now (bindings c.args.bound.now) c.args.place c.args.parts.now _ _ _ _ c.in_ok-msg.ensures.ok
+for_any-returns-clause-ok t c = reads_any c.args.around.now.names.now c.args.around.now.scope.now c.args.around.now.inst.now (bindings c.args.bound.now) c.args.place c.args.parts.now _ _ _ _ c.requires.allowed c.in_ok-msg.ensures.ok
 
 pub negation-returns-in_ok-body-in-len1-clause-ok : goal.negation-returns-in_ok-body-in-len1-clause-ok
 negation-returns-in_ok-body-in-len1-clause-ok t c =

@@ -6,6 +6,7 @@ use Rattle.dl_term.specs.declared.syntax.Term.TheVariants as term
 use Rattle.dl_forms.specs.declared.position.Position.TheVariants as position
 use Rattle.dl_forms.specs.Scope.{bindings, words_of}
 use Rattle.dl_forms.specs.Width.{is_wide}
+use Rattle.dl_forms.specs.Judge.{breaks_read}
 use Rattle.dl_forms.specs.Read.{ReadsTerm, ReadsForm}
 use Rattle.dl_forms.proofs.GetLemmas.{reads_get}
 use Rattle.dl_forms.proofs.RowLemmas.{reads_row}
@@ -49,7 +50,7 @@ term-returns-in-Num-clause-ok t c =
 
 pub field_read-returns-clause-ok : goal.field_read-returns-clause-ok
 field_read-returns-clause-ok t c =
-    rw c.in_ok-node-2.ensures (reads_get c.args.around.now.names.now c.args.around.now.scope.now c.args.around.now.inst.now (bindings c.args.bound.now) c.args.place c.args.label_name.now c.args.field_name.now c.args.node.now
+    rw c.in_ok-node-2.ensures (reads_get c.args.around.now.names.now c.args.around.now.scope.now c.args.around.now.inst.now (bindings c.args.bound.now) c.args.place c.args.label_name.now c.args.field_name.now c.args.node.now c.requires.allowed
     (sym c.is_row.ensures ∙ c.if-is_row.false) c.in_ok-lab.lab c.in_ok-lab.ensures.ok c.in_ok-at.at c.in_ok-at.ensures.ok c.in_ok-node.node c.in_ok-node.ensures.ok)
 
 pub get-returns-in_ok-index-in-len4-2-clause-ok : goal.get-returns-in_ok-index-in-len4-2-clause-ok
@@ -57,9 +58,10 @@ get-returns-in_ok-index-in-len4-2-clause-ok t c =
     let l = c.label_name-item-then-parts-lt5.result in let f = c.field_name-item-then-parts-lt5.result in let n = c.node-item-then-parts-lt5.result in let i = c.index-item.result in
     let whole : c.args.parts.now ≡ l ∷ f ∷ n ∷ i ∷ [] =
     four c.args.parts.now l f n i c.in-len4.len_at_least c.in-len4.len_below c.label_name-item-then-parts-lt5.is c.field_name-item-then-parts-lt5.is c.node-item-then-parts-lt5.is c.index-item.is in
+    let allowed = subst (λ parts. breaks_read c.args.around.now.scope.now.kind parts ≡ false) whole c.requires.allowed in
     subst (λ parts. ReadsForm c.args.around.now.names.now c.args.around.now.scope.now c.args.around.now.inst.now (bindings c.args.bound.now) c.args.place head.Get parts
     (term.Row c.in_ok-lab-in-len4.lab c.in_ok-at-in-len4.at c.in_ok-node-in-len4-2.node c.in_ok-index-in-len4-2.index)) (sym whole)
-    (reads_row c.args.around.now.names.now c.args.around.now.scope.now c.args.around.now.inst.now (bindings c.args.bound.now) c.args.place l f n i
+    (reads_row c.args.around.now.names.now c.args.around.now.scope.now c.args.around.now.inst.now (bindings c.args.bound.now) c.args.place l f n i allowed
     (sym c.is_flat.ensures ∙ c.if-is_flat.false) c.in_ok-lab-in-len4.lab c.in_ok-lab-in-len4.ensures.ok c.in_ok-at-in-len4.at c.in_ok-at-in-len4.ensures.ok
     c.in_ok-node-in-len4-2.node c.in_ok-index-in-len4-2.index
     (rw c.in_ok-node-in-len4-2.ensures c.in_ok-node-in-len4.ensures.ok) (rw c.in_ok-index-in-len4-2.ensures c.in_ok-index-in-len4.ensures.ok))

@@ -15,4 +15,4 @@ pub read_formula-requires-clause-known : goal.read_formula-requires-clause-known
 unfolding reserved
 read_formula-requires-clause-known c =
     rw (c.in_ok-names.ensures, c.nothing.ensures, c.no_instances.ensures)
-    (record { vars = tt; messages = tt; words = tt; labels = tt; protocols = tt; sorts = tt; marks = refl })
+    (record { vars = tt; messages = tt; words = tt; labels = tt; declared = tt; protocols = tt; sorts = tt; marks = refl })

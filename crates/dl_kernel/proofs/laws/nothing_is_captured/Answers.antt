@@ -1,4 +1,4 @@
-use Rattle.dl_kernel.proofs.PutLemmas.{node-put, message-put, term-put}
+use Rattle.dl_kernel.proofs.LeftLemmas.{node-put, message-put, term-put}
 use Rattle.dl_kernel.proofs.laws.nothing_is_captured.Goals as goal
 
 pub returns-clause-nodes : goal.returns-clause-nodes

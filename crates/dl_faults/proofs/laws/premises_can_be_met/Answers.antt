@@ -1,0 +1,18 @@
+use Rattle.std.proofs.Common.{refl}
+use Rattle.dl_term.specs.Syntax.{opened as formula_opened}
+use Rattle.dl_kernel.specs.Opened.{opened}
+use Rattle.dl_faults.specs.Examples.{proved}
+use Rattle.dl_faults.specs.Opened.{opened as tree_opened}
+use Rattle.dl_faults.proofs.Accepted.{invariants-kept}
+use Rattle.dl_faults.proofs.Premises.{proved-formed}
+use Rattle.dl_faults.proofs.laws.premises_can_be_met.Goals as goal
+
+pub returns-clause-formed : goal.returns-clause-formed
+returns-clause-formed c = proved-formed
+
+pub returns-clause-programs : goal.returns-clause-programs
+returns-clause-programs c = refl
+
+pub returns-clause-keeps : goal.returns-clause-keeps
+unfolding formula_opened opened tree_opened
+returns-clause-keeps c = invariants-kept proved proved-formed refl refl

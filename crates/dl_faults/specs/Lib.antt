@@ -1,0 +1,10 @@
+pub mod Wrong
+pub mod Places
+pub mod Shown
+pub mod Worlds
+pub mod Obligations
+pub mod Verdict
+pub mod Given
+pub mod Opened
+pub mod Trees
+pub mod Examples

@@ -1,0 +1,18 @@
+//! What is wrong with a file of protocols and invariants, once it was read: with its worlds, and then with its
+//! obligations and their proofs. And what holds of a file in which nothing is.
+//!
+//! The folder `specs` says what may be wrong and which of it is answered. The code so far finds the earlier of two such
+//! things, the places of a file's parts, and the first fault of the hooks of its worlds.
+#![tactic(auto)]
+
+mod laws;
+mod places;
+mod worlds;
+mod wrong;
+
+pub use laws::{
+    earliest_goes_first, faultless_files_keep_invariants, faults_compute, obligations_are_met,
+    premises_can_be_met, worlds_are_kept,
+};
+pub use worlds::hooks_of_worlds_fault;
+pub use wrong::{Named, Wrong, earlier_of};

@@ -1,0 +1,13 @@
+pub mod Notation
+pub mod Trees
+pub mod Environment
+pub mod Bound
+pub mod Values
+pub mod Worlds
+pub mod Obligations
+pub mod Behind
+pub mod Rules
+pub mod Judge
+pub mod Parts
+pub mod Naming
+pub mod Examples
