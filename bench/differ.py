@@ -18,8 +18,8 @@ import os
 import random
 import re
 import subprocess
-import sys
-import threading
+
+from deep_stack import run_deep
 
 HERE = os.path.dirname(os.path.abspath(__file__))
 TOKEN = re.compile(r"[()]|[^\s();]+")
@@ -113,7 +113,6 @@ def first(line):
 
 
 def run(options):
-    sys.setrecursionlimit(100_000)
     peer = importlib.import_module(options.peer + ".cli")
     rng = random.Random(options.seed)
     texts = [open(name, encoding="latin-1").read() for name in options.files]
@@ -143,10 +142,7 @@ def main():
     options.add_argument("--seed", type=int, default=1)
     options.add_argument("files", nargs="+")
     options = options.parse_args()
-    threading.stack_size(512 << 20)
-    thread = threading.Thread(target=run, args=(options,))
-    thread.start()
-    thread.join()
+    run_deep(run, options)
 
 
 if __name__ == "__main__":

@@ -1,164 +1,12 @@
 //! What the program answers to texts, words, sources and sinks.
 
+use crate::rows::{COUNTER, COUNTER_ROWS, MAIL, MAIL_ROWS, QUERY, QUERY_ROWS, Row};
 use dl_io::{MemSink, MemSource};
 use dl_top::{Status, Word, plain};
 use std::alloc::{AllocError, Global};
 use std::test::Fail;
 
-/// A counter, with the script of its one step.
-const COUNTER: &str = "(disel 1
-  (nodes a)
-  (protocol count
-    (field n int 0)
-    (tag inc () (send true (set n (+ (get self n me) 1)))))
-  (label c count)
-  (world w (labels c) (hooks))
-  (invariant pos w (all x (<= 0 (get c n x))))
-  (deploy w)
-  (proof (step pos c inc send) (names s d)
-    (open k (inst pos k hk (inst pos s hs
-      (decide (= k s) q
-        (reduce q goal (linear (add (1 (goal)) (1 (use hs)))))
-        (reduce q goal (linear (add (1 (goal)) (1 (use hk))))))))))
-)
-";
-
-/// The counter with other lines in place of some of its own, which are counted from 1, and what
-/// it is answered.
-#[derive(Drop)]
-struct Row {
-    changes: &'static [(usize, &'static str)],
-    status: Status,
-    line: &'static str,
-}
-
-const ROWS: [Row; 19] = [
-    Row {
-        changes: &[],
-        status: Status::Done,
-        line: "accepted nodes 1 labels 1 hooks 0 invariants 1 programs 0 obligations 2\n",
-    },
-    Row {
-        changes: &[(2, "  (nodes a b e)")],
-        status: Status::Done,
-        line: "accepted nodes 3 labels 1 hooks 0 invariants 1 programs 0 obligations 2\n",
-    },
-    // Without an update no step touches the invariant.
-    Row {
-        changes: &[
-            (5, "    (tag inc () (send true)))"),
-            (10, ""),
-            (11, ""),
-            (12, ""),
-            (13, ""),
-            (14, ""),
-        ],
-        status: Status::Done,
-        line: "accepted nodes 1 labels 1 hooks 0 invariants 1 programs 0 obligations 1\n",
-    },
-    Row {
-        changes: &[(4, "    (field n int 9223372036854775808)")],
-        status: Status::Refused,
-        line: "refused 6 BigNumber 4:18\n",
-    },
-    Row {
-        changes: &[(4, "    (field n int 007)")],
-        status: Status::Refused,
-        line: "refused 2 BadToken 4:18\n",
-    },
-    Row {
-        changes: &[(15, "")],
-        status: Status::Refused,
-        line: "refused 3 Unclosed 16:1\n",
-    },
-    Row {
-        changes: &[(15, "))")],
-        status: Status::Refused,
-        line: "refused 4 Stray 15:2\n",
-    },
-    // Forms that aren't built yet stand at their item, and a missing one at the file.
-    Row {
-        changes: &[(4, "    (field n bool 0)")],
-        status: Status::Refused,
-        line: "refused 9 NotYet 3:3\n",
-    },
-    Row {
-        changes: &[(9, "")],
-        status: Status::Refused,
-        line: "refused 9 NotYet 1:1\n",
-    },
-    Row {
-        changes: &[(1, "(disel 2")],
-        status: Status::Refused,
-        line: "refused 9 NotYet 1:1\n",
-    },
-    Row {
-        changes: &[(2, "  (nodes a a)")],
-        status: Status::Refused,
-        line: "refused 9 NotYet 2:3\n",
-    },
-    Row {
-        changes: &[(8, "  (invariant pos w (all x (<= 0 (get c m x))))")],
-        status: Status::Refused,
-        line: "refused 9 NotYet 8:3\n",
-    },
-    // A script may not call a variable as the invariant's quantifier does.
-    Row {
-        changes: &[(11, "    (open x (inst pos x hk (inst pos s hs")],
-        status: Status::Refused,
-        line: "refused 9 NotYet 10:3\n",
-    },
-    Row {
-        changes: &[(8, "  (invariant pos w (all x (<= 1 (get c n x))))")],
-        status: Status::Refused,
-        line: "refused 30 NoScript 8:3 (init pos)\n",
-    },
-    Row {
-        changes: &[
-            (8, "  (invariant pos w (all x (<= 1 (get c n x))))"),
-            (
-                15,
-                "  (proof (init pos) (names) (open k (linear (goal))))\n)",
-            ),
-        ],
-        status: Status::Refused,
-        line: "refused 32 RuleFails 15:37\n",
-    },
-    Row {
-        changes: &[(10, ""), (11, ""), (12, ""), (13, ""), (14, "")],
-        status: Status::Refused,
-        line: "refused 30 NoScript 8:3 (step pos c inc send)\n",
-    },
-    // The sender's own invariant is what its step needs.
-    Row {
-        changes: &[(
-            13,
-            "        (reduce q goal (linear (add (1 (goal)) (1 (use hk)))))",
-        )],
-        status: Status::Refused,
-        line: "refused 32 RuleFails 13:24\n",
-    },
-    // A multiplier below 0 of an inequality.
-    Row {
-        changes: &[(
-            13,
-            "        (reduce q goal (linear (add (1 (goal)) (-1 (use hs)))))",
-        )],
-        status: Status::Refused,
-        line: "refused 32 RuleFails 13:24\n",
-    },
-    // A count that goes down.
-    Row {
-        changes: &[(
-            5,
-            "    (tag inc () (send true (set n (- (get self n me) 1)))))",
-        )],
-        status: Status::Refused,
-        line: "refused 32 RuleFails 13:24\n",
-    },
-];
-
-/// The line of the counter that stands here, or the one that is put in its place.
+/// The line of a text that stands here, or the one that is put in its place.
 fn line_at<'a>(changes: &[(usize, &'a str)], number: usize, line: &'a str) -> &'a str {
     match changes.iter().find(|change| change.0 == number) {
         Some((_, new)) => new,
@@ -166,10 +14,15 @@ fn line_at<'a>(changes: &[(usize, &'a str)], number: usize, line: &'a str) -> &'
     }
 }
 
-fn changed(alloc: Global, changes: &[(usize, &'static str)]) -> Result<String, AllocError> {
+/// A text with other lines in place of some of its own.
+fn changed(
+    alloc: Global,
+    base: &'static str,
+    changes: &[(usize, &'static str)],
+) -> Result<String, AllocError> {
     let mut text = String::new(alloc);
     let mut number: usize = 0;
-    for line in COUNTER.lines() {
+    for line in base.lines() {
         number = number.saturating_add(1);
         text.push_str(line_at(changes, number, line))?;
         text.push_str("\n")?;
@@ -228,40 +81,88 @@ fn checked(alloc: Global, text: &[u8]) -> Result<(Status, Vec<u8>), AllocError> 
     answered(alloc, &SOUND, &["check"], text)
 }
 
+/// What `check` answers to a row of a text.
+fn answered_row(
+    alloc: Global,
+    base: &'static str,
+    row: &Row,
+) -> Result<(Status, Vec<u8>), AllocError> {
+    let text = changed(alloc, base, row.changes)?;
+    checked(alloc, text.as_bytes())
+}
+
 #[test]
 fn counters(rt: HostRuntime) -> Result<(), Fail> {
-    for row in &ROWS {
-        let text = changed(rt.alloc(), row.changes)?;
-        let (status, line) = checked(rt.alloc(), text.as_bytes())?;
+    for row in &COUNTER_ROWS {
+        let (status, line) = answered_row(rt.alloc(), COUNTER, row)?;
         assert_eq!(rt; line.as_slice(), row.line.as_bytes());
         assert_eq!(rt; status, row.status);
     }
     Ok(())
 }
 
-/// A protocol of messages that are received, which isn't built yet.
-const MAIL: &[u8] = b"(disel 1
-  (nodes a b)
-  (protocol mail (field got bool 0)
-    (tag req ((v int)) (send true) (receive true (set got 1))))
-  (label r mail)
-  (world w (labels r) (hooks))
-  (invariant seen w
-    (each m r req (implies (= (live m) 0) (= (get r got (to m)) 1))))
+#[test]
+fn mails(rt: HostRuntime) -> Result<(), Fail> {
+    for row in &MAIL_ROWS {
+        let (status, line) = answered_row(rt.alloc(), MAIL, row)?;
+        assert_eq!(rt; line.as_slice(), row.line.as_bytes());
+        assert_eq!(rt; status, row.status);
+    }
+    Ok(())
+}
+
+#[test]
+fn queries(rt: HostRuntime) -> Result<(), Fail> {
+    for row in &QUERY_ROWS {
+        let (status, line) = answered_row(rt.alloc(), QUERY, row)?;
+        assert_eq!(rt; line.as_slice(), row.line.as_bytes());
+        assert_eq!(rt; status, row.status);
+    }
+    Ok(())
+}
+
+/// The counter in its one layout.
+const LAID_OUT: &str = "(disel 1
+  (nodes a)
+  (protocol count (field n int 0) (tag inc () (send true (set n (+ (get self n me) 1)))))
+  (label c count)
+  (world w (labels c) (hooks))
+  (invariant pos w (all x (<= 0 (get c n x))))
   (deploy w)
+  (proof (step pos c inc send) (names s d) (open k (inst pos k hk (inst pos s hs (decide (= k s) q (reduce q goal (linear (add (1 (goal)) (1 (use hs))))) (reduce q goal (linear (add (1 (goal)) (1 (use hk))))))))))
 )
 ";
 
+#[test]
+fn layouts(rt: HostRuntime) -> Result<(), Fail> {
+    let (status, written) = answered(rt.alloc(), &SOUND, &["show"], COUNTER.as_bytes())?;
+    assert_eq!(rt; written.as_slice(), LAID_OUT.as_bytes());
+    assert_eq!(rt; status, Status::Done);
+    Ok(())
+}
+
+#[test]
+fn no_layout_of_a_refused_text(rt: HostRuntime) -> Result<(), Fail> {
+    let (status, written) = answered(rt.alloc(), &SOUND, &["show"], b"(disel 1)".as_slice())?;
+    assert_eq!(rt; written.as_slice(), b"refused 10 BadForm 1:1\n".as_slice());
+    assert_eq!(rt; status, Status::Refused);
+    Ok(())
+}
+
 /// Whole texts, and the lines that refuse them.
-const TEXTS: [(&[u8], &str); 8] = [
+const TEXTS: [(&[u8], &str); 9] = [
     (b"", "refused 3 Unclosed 1:1\n"),
     (b"; x\n", "refused 3 Unclosed 2:1\n"),
     (b"(disel 1))", "refused 4 Stray 1:10\n"),
-    (b"(disel 1)", "refused 9 NotYet 1:1\n"),
+    (b"(disel 1)", "refused 10 BadForm 1:1\n"),
+    (b"((disel 1))", "refused 10 BadForm 1:1\n"),
     (b"\x80", "refused 1 BadByte 1:1\n"),
     (b"(a (b)", "refused 3 Unclosed 1:7\n"),
     (b"(a -0)", "refused 2 BadToken 1:4\n"),
-    (MAIL, "refused 9 NotYet 3:3\n"),
+    (
+        b"(disel 1 (nodes a) (world w (labels) (hooks)) (deploy w) (deploy w))",
+        "refused 10 BadForm 1:58\n",
+    ),
 ];
 
 #[test]
@@ -382,7 +283,13 @@ fn failing_sinks(rt: HostRuntime) -> Result<(), Fail> {
 }
 
 /// Lists of words that name no command.
-const OTHER_WORDS: [&[&str]; 5] = [&[], &["check", "x"], &["Check"], &["run"], &["show"]];
+const OTHER_WORDS: [&[&str]; 5] = [
+    &[],
+    &["check", "x"],
+    &["Check"],
+    &["run", "--budget", "0"],
+    &["run", "--order", "seed:01"],
+];
 
 const USAGE: &str =
     "usage: disel check | show | run [--serial] [--budget B] [--order oldest|newest|seed:S] | gen K [--sum]\n";

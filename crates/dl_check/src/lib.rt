@@ -1,20 +1,15 @@
-//! The check of a file: its reading, its obligations, and the replay of their scripts.
+//! The check of a tree: its forms, names and sorts, the file that it means, and the file's obligations.
 //!
-//! So far it serves files of the early form, and refuses every other form as not built yet. Each
-//! module is named for what it will become a crate of its own as.
+//! It serves files without programs: a procedure, a deployed program or the proof of an obligation of one is refused as not
+//! built yet, by rule 9.
+//!
+//! A file is built without a contract, and then looked at: that it is what its tree means, and that it is formed. So nothing
+//! rests on the code that builds it.
 #![tactic(auto)]
 
 mod check;
-mod duty_line;
-mod forms;
-mod inv;
-mod kernel;
-mod names;
-mod parts;
-mod read_proto;
-mod read_script;
-mod rewriting;
-mod sequent;
-mod wp;
+mod early;
+mod read;
 
-pub use check::{Accepted, Fault, check_tree};
+pub use check::check_tree;
+pub use read::read_file;

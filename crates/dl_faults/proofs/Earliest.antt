@@ -1,5 +1,5 @@
 -- What the earliest one of several is.
-use Rattle.std.proofs.Common.{◌≡◌, ℕ, ◌<◌, ◌≤◌, ◌==◌, nat_lt, Bool, true, false, ◌&&◌, ◌⊎◌, inl, inr, if◌then◌else◌, List, [], ◌∷◌, ◌++◌, Option, Some, None, refl, ap, sym, ◌∙◌, subst, eq-eqb, arith, ◌+◌, suc, length, drop, add-one}
+use Rattle.std.proofs.Common.{◌≡◌, ℕ, ◌<◌, ◌≤◌, ◌==◌, nat_lt, Bool, true, false, ◌&&◌, ◌⊎◌, inl, inr, if◌then◌else◌, List, [], ◌∷◌, ◌++◌, Option, Some, None, refl, ap, sym, ◌∙◌, subst, eq-eqb, arith, ◌+◌, suc, length, drop, drop-cons, get_or, add-one}
 use Rattle.std.proofs.lemmas.Bool.{eqb-true, ltb-true, ltb-false, lt-ltb}
 use Rattle.std.proofs.Math.ListN.{drop_of_length-le}
 use Rattle.std.specs.List.{AllByRecursion as Each, flat_map, enumerate_from}
@@ -171,3 +171,33 @@ module _ {X : Type 0} (f : ℕ × X → List Wrong) where
 
   pub all-seen : (xs : List X) (n : ℕ) (found : Option Wrong) → length xs ≤ n → joined found (to_come xs n) ≡ found
   all-seen xs n found end = ap (λ ys. joined found (earliest (flat_map f (enumerate_from n ys)))) (drop_of_length-le xs end) ∙ joined-none found
+
+  -- one more was looked at
+  pub seen-one : (items xs : List X) (i : ℕ) (x d : X) (found one new total : Option Wrong) → items ≡ xs → i < length items → x ≡ get_or items i d →
+      one ≡ earliest (f (i, x)) → new ≡ joined found one → joined found (to_come xs i) ≡ total → joined new (to_come xs (i + 1)) ≡ total
+  seen-one items xs i x d found one new total same within here told is before =
+      let cut : drop i xs ≡ x ∷ drop (suc i) xs =
+      subst (λ (ys : List X). drop i ys ≡ x ∷ drop (suc i) ys) same (drop-cons items i d within ∙ ap (λ y. y ∷ drop (suc i) items) (sym here)) in
+      ap (λ o. joined o (to_come xs (i + 1))) (is ∙ ap (joined found) told) ∙ (sym (one-more xs i x found cut) ∙ before)
+
+-- ---- the same without numbers
+
+module _ {X : Type 0} (f : X → List Wrong) where
+  -- what is still to come, where so many were looked at
+  abbrev pub to_follow : List X → ℕ → Option Wrong
+  to_follow xs i = earliest (flat_map f (drop i xs))
+
+  pub followed-one : (items xs : List X) (i : ℕ) (x d : X) (found one new total : Option Wrong) → items ≡ xs → i < length items → x ≡ get_or items i d →
+      one ≡ earliest (f x) → new ≡ joined found one → joined found (to_follow xs i) ≡ total → joined new (to_follow xs (i + 1)) ≡ total
+  followed-one items xs i x d found one new total same within here told is before =
+      let rest = flat_map f (drop (i + 1) xs) in
+      let cut : drop i xs ≡ x ∷ drop (suc i) xs =
+      subst (λ (ys : List X). drop i ys ≡ x ∷ drop (suc i) ys) same (drop-cons items i d within ∙ ap (λ y. y ∷ drop (suc i) items) (sym here)) in
+      let cut_here : drop i xs ≡ x ∷ drop (i + 1) xs = rw add-one cut in
+      let step : joined found (to_follow xs i) ≡ joined (joined found (earliest (f x))) (to_follow xs (i + 1)) =
+      ap (λ ys. joined found (earliest (flat_map f ys))) cut_here
+      ∙ (ap (joined found) (earliest-parts (f x) rest) ∙ joined-through found (earliest (f x)) (earliest rest)) in
+      ap (λ o. joined o (to_follow xs (i + 1))) (is ∙ ap (joined found) told) ∙ (sym step ∙ before)
+
+  pub all-followed : (xs : List X) (n : ℕ) (found : Option Wrong) → length xs ≤ n → joined found (to_follow xs n) ≡ found
+  all-followed xs n found end = ap (λ ys. joined found (earliest (flat_map f ys))) (drop_of_length-le xs end) ∙ joined-none found

@@ -50,7 +50,7 @@ no-program d formed none node program e =
 
 -- ---- injections
 
-hooks-declared : (d : Decls) → IsFormed d → (w : ℕ) → HooksAreDeclared d (world_at d w)
+pub hooks-declared : (d : Decls) → IsFormed d → (w : ℕ) → HooksAreDeclared d (world_at d w)
 hooks-declared d formed w =
     each-get (HooksAreDeclared d) d.worlds w (record { sym = 0; labels = []; hooks = [] }) tt (each-map _ (HooksAreDeclared d) d.worlds formed.worlds (λ world f. f.hooks))
 

@@ -2,7 +2,11 @@ pub mod Nothing
 pub mod Earliest
 pub mod Kept
 pub mod Answered
+pub mod Same
 pub mod Proved
 pub mod Accepted
 pub mod Premises
 pub mod Listed
+pub mod Labelled
+pub mod Stood
+pub mod Stages

@@ -1,12 +1,10 @@
 -- Where nothing is wrong with the obligations and their proofs, each obligation is met.
-use Rattle.std.proofs.Common.{◌≡◌, ℕ, zero, suc, ◌+◌, ◌<◌, ◌≤◌, ◌==◌, Bool, true, false, ◌&&◌, cond, if◌then◌else◌, List, [], ◌∷◌, Option, Some, None, length, refl, ap, sym, subst, arith}
-use Rattle.std.proofs.lemmas.Bool.{eqb-true}
+use Rattle.std.proofs.Common.{◌≡◌, ℕ, zero, suc, ◌+◌, ◌<◌, ◌≤◌, ◌==◌, Bool, true, false, cond, if◌then◌else◌, List, [], ◌∷◌, Option, Some, None, length, refl, ap, subst, arith}
 use Rattle.std.specs.List.{AllByRecursion as Each, find, flat_map, range_with_len}
 use Rattle.dl_model.specs.Sorts.{has}
 use Rattle.dl_model.specs.Formed.{AreDistinct, file_bound}
-use Rattle.dl_model.proofs.Small.{and-left, and-right, eqb-other, or-both, some-same, each-map, each-zip}
+use Rattle.dl_model.proofs.Small.{eqb-other, or-both, some-same, each-map, each-zip}
 use Rattle.dl_sequent.specs.declared.duty.Duty.{Duty}
-use Rattle.dl_sequent.specs.declared.duty.Duty.TheVariants as duty
 use Rattle.dl_sequent.specs.Clean.{IsClean}
 use Rattle.dl_sequent.specs.Plain.{is_plain_sequent}
 use Rattle.dl_sequent.specs.Sizes.{is_too_large}
@@ -16,7 +14,6 @@ use Rattle.dl_kernel.specs.declared.fault.KernelFault.TheVariants.{RuleFails, Li
 use Rattle.dl_kernel.specs.Outcome.{fault}
 use Rattle.dl_kernel.proofs.Replayed.{replay-sound}
 use Rattle.dl_inv.specs.Duties.{duties_of}
-use Rattle.dl_inv.specs.Facts.{agree}
 use Rattle.dl_inv.specs.Obligations.{sequent_of}
 use Rattle.dl_inv.specs.Taken.{IsMet, MayTake, names_taken}
 use Rattle.dl_inv.proofs.FileNames.{file-names}
@@ -25,69 +22,17 @@ use Rattle.dl_file.specs.declared.file.Proof.{Proof}
 use Rattle.dl_file.specs.declared.file.File.{File}
 use Rattle.dl_faults.specs.declared.wrong.Wrong.{Wrong}
 use Rattle.dl_faults.specs.Shown.{texts_of}
-use Rattle.dl_faults.specs.Obligations.{same_duty, is_proof_of, proof_of, spare_names, script_wrong, proof_wrong, duty_wrong, extra_wrong, obligation_wrongs, obligation_fault}
+use Rattle.dl_faults.specs.Obligations.{is_proof_of, proof_of, spare_names, script_wrong, proof_wrong, duty_wrong, extra_wrong, obligation_wrongs, obligation_fault}
 use Rattle.dl_faults.specs.Given.{FileIsFormed, ProofIsFormed}
+use Rattle.dl_faults.proofs.Same.{same-is}
 use Rattle.dl_faults.proofs.Nothing.{front-none, each-none, unless-fine}
 use Rattle.dl_faults.proofs.Earliest.{none-earliest}
 use Rattle.dl_faults.proofs.Answered.{never-memory}
 
--- ---- one obligation and another
-
-agree-is : (a b : Bool) → agree a b ≡ true → a ≡ b
-agree-is true b h = sym h
-agree-is false true h = cc
-agree-is false false h = refl
-
-two-same : {X : Type 0} (make : ℕ → ℕ → X) (p q k l : ℕ) → ((p == q) && (k == l)) ≡ true → make p k ≡ make q l
-two-same make p q k l h = rw (eqb-true p q (and-left _ _ h), eqb-true k l (and-right (p == q) _ h)) refl
-
-same-is : (a b : Duty) → same_duty a b ≡ true → a ≡ b
-same-is (duty.InitProtocol p) (duty.InitProtocol q) h = ap duty.InitProtocol (eqb-true p q h)
-same-is (duty.InitInvariant i) (duty.InitInvariant j) h = ap duty.InitInvariant (eqb-true i j h)
-same-is (duty.StepProtocol p tag receive) (duty.StepProtocol q other way) h =
-    let names = and-left ((p == q) && (tag == other)) _ h in
-    rw (eqb-true p q (and-left _ _ names), eqb-true tag other (and-right (p == q) _ names), agree-is receive way (and-right ((p == q) && (tag == other)) _ h)) refl
-same-is (duty.StepInvariant i label tag receive) (duty.StepInvariant j elsewhere other way) h =
-    let front = and-left ((i == j) && (label == elsewhere)) _ h in
-    let back = and-right ((i == j) && (label == elsewhere)) _ h in
-    rw (eqb-true i j (and-left _ _ front), eqb-true label elsewhere (and-right (i == j) _ front), eqb-true tag other (and-left _ _ back), agree-is receive way (and-right (tag == other) _ back)) refl
-same-is (duty.Start p) (duty.Start q) h = ap duty.Start (eqb-true p q h)
-same-is (duty.Guard p k) (duty.Guard q l) h = two-same duty.Guard p q k l h
-same-is (duty.AfterSend p k) (duty.AfterSend q l) h = two-same duty.AfterSend p q k l h
-same-is (duty.Got p k) (duty.Got q l) h = two-same duty.Got p q k l h
-same-is (duty.Miss p k) (duty.Miss q l) h = two-same duty.Miss p q k l h
-same-is (duty.AfterRead p k) (duty.AfterRead q l) h = two-same duty.AfterRead p q k l h
-same-is (duty.Body p k) (duty.Body q l) h = two-same duty.Body p q k l h
-same-is (duty.Exit p k) (duty.Exit q l) h = two-same duty.Exit p q k l h
-same-is (duty.Enter p k) (duty.Enter q l) h = two-same duty.Enter p q k l h
-same-is (duty.Leave p k) (duty.Leave q l) h = two-same duty.Leave p q k l h
-same-is (duty.Stable p k label tag receive) (duty.Stable q l elsewhere other way) h =
-    let front = and-left ((p == q) && (k == l)) _ h in
-    let back = and-right ((p == q) && (k == l)) _ h in
-    let middle = and-left ((label == elsewhere) && (tag == other)) _ back in
-    rw (
-      eqb-true p q (and-left _ _ front),
-      eqb-true k l (and-right (p == q) _ front),
-      eqb-true label elsewhere (and-left _ _ middle),
-      eqb-true tag other (and-right (label == elsewhere) _ middle),
-      agree-is receive way (and-right ((label == elsewhere) && (tag == other)) _ back),
-    ) refl
-same-is (duty.Frame p k label tag receive) (duty.Frame q l elsewhere other way) h =
-    let front = and-left ((p == q) && (k == l)) _ h in
-    let back = and-right ((p == q) && (k == l)) _ h in
-    let middle = and-left ((label == elsewhere) && (tag == other)) _ back in
-    rw (
-      eqb-true p q (and-left _ _ front),
-      eqb-true k l (and-right (p == q) _ front),
-      eqb-true label elsewhere (and-left _ _ middle),
-      eqb-true tag other (and-right (label == elsewhere) _ middle),
-      agree-is receive way (and-right ((label == elsewhere) && (tag == other)) _ back),
-    ) refl
-same-is (duty.Deploy n) (duty.Deploy m) h = ap duty.Deploy (eqb-true n m h)
-same-is _ _ h = cc
+-- ---- proofs
 
 -- the first one that passes is one of the list, and passes
-found-passes : {X : Type 0} (P : X → Type 0) (test : X → Bool) (xs : List X) (found : X) → Each P xs → find test xs ≡ Some found → P found × (test found ≡ true)
+pub found-passes : {X : Type 0} (P : X → Type 0) (test : X → Bool) (xs : List X) (found : X) → Each P xs → find test xs ≡ Some found → P found × (test found ≡ true)
 found-passes P test [] found each e = cc
 found-passes P test (x ∷ xs) found each e = go (test x) refl (found-passes P test xs found each.1) e
   where
@@ -119,7 +64,7 @@ range-above : (n a limit : ℕ) → limit ≤ a → Each (λ x. limit ≤ x) (ra
 range-above zero a limit h = tt
 range-above (suc n) a limit h = (h, range-above n (a + 1) limit (omega (h, arith)))
 
-spare-taken : (file : File) → FileIsFormed file → (duty : Duty) → MayTake file.decls duty (spare_names file duty)
+pub spare-taken : (file : File) → FileIsFormed file → (duty : Duty) → MayTake file.decls duty (spare_names file duty)
 spare-taken file formed duty =
     let count = names_taken file.decls duty in
     let limit = length (texts_of file) in
@@ -151,7 +96,7 @@ module _ (file : File) (formed : FileIsFormed file) where
       let plain = unless-fine (is_plain_sequent s) _ (size-fine (is_too_large s) _ _ h) in
       (names, may, plain-valid file.decls.inst s (clean names may) plain)
 
-  proof-taken : (duty : Duty) (proof : Proof) → ProofIsFormed file.decls proof → proof.duty ≡ duty → MayTake file.decls duty proof.names
+  pub proof-taken : (duty : Duty) (proof : Proof) → ProofIsFormed file.decls proof → proof.duty ≡ duty → MayTake file.decls duty proof.names
   proof-taken duty proof given same =
       file-names file.decls duty proof.names (subst (λ d. length proof.names ≡ names_taken file.decls d) same given.count) given.distinct given.unbound
 

@@ -2,6 +2,7 @@ pub mod Wrong
 pub mod Places
 pub mod Shown
 pub mod Worlds
+pub mod Code
 pub mod Obligations
 pub mod Verdict
 pub mod Given

@@ -1,10 +1,12 @@
 //! What is wrong with a file of protocols and invariants, once it was read: with its worlds, and then with its
 //! obligations and their proofs. And what holds of a file in which nothing is.
 //!
-//! The folder `specs` says what may be wrong and which of it is answered. The code so far finds the earlier of two such
-//! things, the places of a file's parts, and the first fault of the hooks of its worlds.
+//! The folder `specs` says what may be wrong and which of it is answered. The code finds the earlier of two such
+//! things, the places of a file's parts, and the first fault of its worlds.
 #![tactic(auto)]
 
+mod invariants;
+mod labels;
 mod laws;
 mod places;
 mod worlds;
@@ -14,5 +16,6 @@ pub use laws::{
     earliest_goes_first, faultless_files_keep_invariants, faults_compute, obligations_are_met,
     premises_can_be_met, worlds_are_kept,
 };
-pub use worlds::hooks_of_worlds_fault;
+pub use places::{coherence_place, invariant_place};
+pub use worlds::{hooks_of_worlds_fault, world_fault};
 pub use wrong::{Named, Wrong, earlier_of};

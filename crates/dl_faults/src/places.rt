@@ -68,8 +68,9 @@ fn part_named<'a>(tree: &'a Tree, word: &str) -> Option<&'a Tree>
     None
 }
 
-/// The place of a protocol's coherence.
-pub(crate) fn coherence_place(file: &Tree, protocol: u8) -> Place
+/// The place of a protocol's coherence, or that of the protocol where it has none. A number that no protocol has stands
+/// for the whole file.
+pub fn coherence_place(file: &Tree, protocol: u8) -> Place
     ensures { result ≡ place_of_coherence file.now protocol }
 {
     let item = item(file, "protocol", protocol);
@@ -79,7 +80,8 @@ pub(crate) fn coherence_place(file: &Tree, protocol: u8) -> Place
     }
 }
 
-pub(crate) fn invariant_place(file: &Tree, invariant: u8) -> Place
+/// The place of an invariant. A number that no invariant has stands for the whole file.
+pub fn invariant_place(file: &Tree, invariant: u8) -> Place
     ensures { result ≡ place_of_invariant file.now invariant }
 {
     item(file, "invariant", invariant).place()

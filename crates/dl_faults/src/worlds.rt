@@ -1,18 +1,22 @@
-//! The first fault of the hooks of a file's worlds.
+//! The first fault of a file's worlds.
 
-ghost use Rattle.std.specs.Prelude.{◌≡◌, ◌≤◌, ◌&&◌, length};
+ghost use Rattle.std.specs.Prelude.{◌≡◌, ◌≤◌, ◌&&◌, IfOk, length};
 ghost use Rattle.std.specs.List.{flat_map, enumerate_from};
 ghost use Rattle.dl_model.specs.Sorts.{has as has_position};
 ghost use Rattle.dl_model.specs.Lookup.{hook_at};
+ghost use Rattle.dl_model.specs.Formed.{IsFormed};
 ghost use Rattle.dl_faults.specs.Wrong.{earliest};
-ghost use Rattle.dl_faults.specs.Worlds.{hook_wrong, world_wrong};
+ghost use Rattle.dl_faults.specs.Worlds.{hook_wrong, world_wrong, world_fault as fault_of_worlds};
 
+use crate::invariants::invariants_fault;
 use crate::places::hook_place;
 use crate::wrong::{Named, Wrong, earlier_of};
 use dl_file::File;
 use dl_model::{Decls, World};
+use std::alloc::{AllocError, Global};
 
-fn has(positions: &[u8], n: u8) -> bool
+/// Whether the list has the position.
+pub(crate) fn has(positions: &[u8], n: u8) -> bool
     ensures { result ≡ has_position positions.now n }
 {
     for position in positions {
@@ -70,4 +74,18 @@ pub fn hooks_of_worlds_fault(file: &File) -> Option<Wrong>
         found = earlier_of(found, hooks_fault(file, w as u8, world));
     }
     found
+}
+
+/// The first fault of a file's worlds: a hook whose core or client is outside its world (rule 21), and of each invariant
+/// a label outside its world (24), or its world where that can't be injected into the world of the deployment, for a
+/// label (20) or a hook (22) that is named.
+///
+/// The condition is that the declarations are formed. The only error is want of memory.
+pub fn world_fault(alloc: Global, file: &File) -> Result<Option<Wrong>, AllocError>
+    requires { IsFormed file.now.decls }
+    ensures { IfOk result (λ found. found ≡ fault_of_worlds file.now) }
+{
+    let of_hooks = hooks_of_worlds_fault(file);
+    let of_invariants = invariants_fault(alloc, file)?;
+    Ok(earlier_of(of_hooks, of_invariants))
 }

@@ -8,29 +8,52 @@ use dl_tree::{Name, Tree};
 
 /// The word that a form begins with.
 #[derive(Clone, Copy, Debug, Drop, PartialEq, Eq)]
-pub(crate) enum Head {
+pub enum Head {
+    /// `get`: a read of a field or a row.
     Get,
+    /// `len`: the length of a soup.
     Len,
+    /// `id`: the place of a message in its soup.
     Id,
+    /// `from`: the node that sent a message.
     From,
+    /// `to`: the node that a message is addressed to.
     To,
+    /// `live`: whether a message is not received yet.
     Live,
+    /// `arg`: an argument of a message.
     Arg,
+    /// `+`: a sum.
     Add,
+    /// `-`: a difference.
     Sub,
+    /// `*`: a product.
     Mul,
+    /// `if`: a choice between two terms.
     If,
+    /// `=`: two terms are equal.
     Eq,
+    /// `<`: a term is less than another.
     Lt,
+    /// `<=`: a term is at most another.
     Le,
+    /// `not`: a negation.
     Not,
+    /// `and`: a conjunction.
     And,
+    /// `or`: a disjunction.
     Or,
+    /// `implies`: an implication.
     Implies,
+    /// `all`: a formula holds of each number.
     All,
+    /// `some`: a formula holds of some number.
     Some,
+    /// `each`: a formula holds of each message.
     Each,
+    /// `any`: a formula holds of some message.
     Any,
+    /// Any other word, or none.
     Other,
 }
 
@@ -87,7 +110,8 @@ fn head_named(name: &Name) -> Head
     }
 }
 
-pub(crate) fn head_of(tree: &Tree) -> Head
+/// The word that a list begins with, by its first part.
+pub fn head_of(tree: &Tree) -> Head
     ensures { result ≡ head_of tree.now }
 {
     match tree {

@@ -57,7 +57,7 @@ fn breaks_read(kind: Kind, parts: &[Tree]) -> bool
 }
 
 /// Whether a list makes a formula not local, or an expression not of its kind.
-pub(crate) fn breaks_kind(kind: Kind, head: Head, parts: &[Tree]) -> bool
+pub fn breaks_kind(kind: Kind, head: Head, parts: &[Tree]) -> bool
     ensures { result ≡ breaks_kind kind head parts.now }
 {
     match head {

@@ -21,6 +21,8 @@ mod width;
 pub use api::{formula_of, mark_bound, read_formula, read_term, term_of};
 pub use fault::FormFault;
 pub use form::{form_fault, form_of, is_name};
+pub use head::{Head, head_of};
+pub use kind::breaks_kind;
 pub use names::{has_text, is};
 pub use number::number_names;
 pub use position::Position;

@@ -11,4 +11,5 @@ pub mod Clean
 pub mod Captured
 pub mod FileNames
 mod Listing
-mod Tried
+mod Building
+mod Kept

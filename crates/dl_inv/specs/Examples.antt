@@ -1,10 +1,11 @@
 -- Obligations of small files, written out.
-use Rattle.std.specs.Prelude.{ℕ, pos, negsuc, Option, None, List, [], ◌∷◌}
+use Rattle.std.specs.Prelude.{ℕ, pos, negsuc, Option, Some, None, List, [], ◌∷◌}
 use Rattle.dl_term.specs.declared.syntax.Lab.{Lab}
 use Rattle.dl_term.specs.declared.syntax.Lab.TheVariants.{At}
 use Rattle.dl_term.specs.declared.syntax.Part.TheVariants as part
-use Rattle.dl_term.specs.declared.syntax.Term.{Term, Num, Var, Field, Msg, Add, If}
+use Rattle.dl_term.specs.declared.syntax.Term.{Term, Num, Var, Field, Len, Msg, Add, If}
 use Rattle.dl_term.specs.declared.syntax.Formula.{Formula, True, Eq, Lt, Le, And, Or, Implies, All, Each}
+use Rattle.dl_model.specs.declared.protocol.Transition.{Transition}
 use Rattle.dl_model.specs.declared.sequent.Hypothesis.{Hypothesis}
 use Rattle.dl_model.specs.declared.sequent.Sequent.{Sequent}
 use Rattle.dl_model.specs.declared.file.Decls.{Decls}
@@ -94,3 +95,23 @@ guard = All 31 (Or (Eq (Var 31) (Var me_word)) (Lt (Var 30) (Var to_word)))
 
 abbrev pub guard_in_step : Formula
 guard_in_step = All 31 (Or (Eq (Var 31) (Var 40)) (Lt (Var 42) (Var 41)))
+
+-- ---- at most one message: a label whose messages are sent and received and change no field
+
+abbrev pub idle : Transition
+idle = record { guard = True; updates = [] }
+
+abbrev pub short : Decls
+short = record {
+  inst = record {
+    nodes = 1;
+    protocols = record { sym = 20; fields = []; tags = record { sym = 21; args = []; send = idle; receive = Some idle } ∷ []; coherence = None } ∷ [];
+    of = 0 ∷ [];
+  };
+  labels = 22 ∷ [];
+  hooks = [];
+  worlds = record { sym = 23; labels = 0 ∷ []; hooks = [] } ∷ [];
+  invariants = record { sym = 24; world = 0; formula = Le (Len (At 0)) (Num (pos 1)) } ∷ [];
+  procs = [];
+  deploy = None;
+}

@@ -8,3 +8,5 @@ pub mod Duties
 pub mod Taken
 pub mod Examples
 pub mod Moves
+pub mod Code
+pub mod Built

@@ -1,8 +1,15 @@
 //! The obligations of protocols and invariants: which ones a file has, and the sequent of each.
 #![tactic(auto)]
 
+mod facts;
+mod fits;
+mod hooks;
+mod joined;
 mod laws;
 mod listed;
+mod rule;
+mod sequents;
+mod step;
 mod touched;
 
 pub use laws::{
@@ -10,7 +17,5 @@ pub use laws::{
     obligations_compute,
 };
 pub use listed::duties;
+pub use sequents::{BuildFault, build};
 pub use touched::{Move, touches};
-
-#[cfg(test)]
-mod tests;

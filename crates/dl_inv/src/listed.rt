@@ -227,7 +227,7 @@ fn add_if_touched(
 }
 
 // The protocol of a label.
-fn find_protocol(inst: &Instances, label: u8) -> Option<&Protocol>
+pub(crate) fn find_protocol(inst: &Instances, label: u8) -> Option<&Protocol>
     ensures { option_copied result ≡ protocol_found inst.now (slice_get inst.now.of label) }
 {
     match at(inst.of.as_slice(), usize::from(label)) {

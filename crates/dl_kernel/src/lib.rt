@@ -16,8 +16,6 @@ mod reduce;
 mod rules;
 mod scope;
 mod sequents;
-#[cfg(test)]
-mod tests;
 
 pub use fault::KernelFault;
 pub use laws::{nothing_is_captured, rules_compute, scripts_prove};

@@ -8,8 +8,6 @@ mod line;
 mod linearizer;
 mod narrow;
 mod sides;
-#[cfg(test)]
-mod tests;
 mod verifier;
 
 pub use certificate::{CertFault, Certificate, Multiple};

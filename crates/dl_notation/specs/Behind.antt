@@ -6,7 +6,7 @@ use Rattle.dl_tree.specs.declared.tree.Tree.{Tree, Num}
 use Rattle.dl_tree.specs.declared.tree.Tree.TheOpen.{Tree-F}
 use Rattle.dl_tree.specs.declared.tree.Tree.TheOpen as layer
 use Rattle.dl_tree.specs.declared.tree.Tree.TheFolds.{para-Tree}
-use Rattle.dl_forms.specs.Context.{Text, look_up}
+use Rattle.dl_forms.specs.Context.{Text, look_up, is_among}
 use Rattle.dl_forms.specs.Judge.{text_of}
 use Rattle.dl_notation.specs.declared.role.Role.{Role}
 use Rattle.dl_notation.specs.declared.role.Role.TheVariants.{Number, Name, Constant, Way, Formula, Term}
@@ -24,6 +24,15 @@ use Rattle.dl_notation.specs.Obligations.{Given, given_by, own_of, obligation_na
 
 -- ---- names
 
+-- the texts with one more, where it isn't there already
+abbrev pub with_text : List Text → Text → List Text
+with_text texts text = if is_among text texts then texts else texts ++ text ∷ []
+
+-- the texts with each of these
+abbrev pub with_texts : List Text → List Text → List Text
+with_texts texts [] = texts
+with_texts texts (text ∷ more) = with_texts (with_text texts text) more
+
 abbrev pub declaring : Environment → Text → Environment
 declaring env text = record env { declared = env.declared ++ text ∷ [] }
 
@@ -32,7 +41,7 @@ listing env text = record env { listed = env.listed ++ text ∷ [] }
 
 -- a variable that no quantifier binds
 abbrev pub introducing : Environment → Text → Environment
-introducing env text = record env { variables = env.variables ++ text ∷ []; others = env.others ++ text ∷ []; listed = env.listed ++ text ∷ [] }
+introducing env text = record env { variables = env.variables ++ text ∷ []; others = with_text env.others text; listed = env.listed ++ text ∷ [] }
 
 abbrev pub all_but_first : {X : Type 0} → List X → List X
 all_but_first [] = []
@@ -44,8 +53,8 @@ wants_message (message ∷ named) = message
 
 -- a name that a proof gives to a part of its obligation
 abbrev pub naming : Environment → Bool → Text → Environment
-naming env true text = record env { messages = env.messages ++ text ∷ []; others = env.others ++ text ∷ []; named = all_but_first env.named }
-naming env false text = record env { variables = env.variables ++ text ∷ []; others = env.others ++ text ∷ []; named = all_but_first env.named }
+naming env true text = record env { messages = env.messages ++ text ∷ []; others = with_text env.others text; named = all_but_first env.named }
+naming env false text = record env { variables = env.variables ++ text ∷ []; others = with_text env.others text; named = all_but_first env.named }
 
 -- behind a name
 abbrev pub named_behind : Environment → NameRole → Text → Environment
@@ -61,9 +70,9 @@ named_behind env name.NewProcedure text = declaring env text
 named_behind env name.NewArgument text = introducing env text
 named_behind env name.NewHookArgument text = introducing env text
 named_behind env name.NewParameter text = introducing env text
-named_behind env name.NewLocal text = record env { locals = env.locals ++ text ∷ []; others = env.others ++ text ∷ [] }
+named_behind env name.NewLocal text = record env { locals = env.locals ++ text ∷ []; others = with_text env.others text }
 named_behind env name.NewStepName text = naming env (wants_message env.named) text
-named_behind env name.NewOpened text = record env { variables = env.variables ++ text ∷ []; messages = env.messages ++ text ∷ []; others = env.others ++ text ∷ [] }
+named_behind env name.NewOpened text = record env { variables = env.variables ++ text ∷ []; messages = env.messages ++ text ∷ []; others = with_text env.others text }
 named_behind env name.NewHypothesis text = record env { hypotheses = env.hypotheses ++ text ∷ [] }
 named_behind env name.NewLastHypothesis text = record env { pending = text ∷ [] }
 named_behind env name.Protocol text = record env { own = unwrap_or (look_up text env.protocols) no_protocol }
@@ -212,7 +221,7 @@ Passer = ListRole → Environment → Environment
 abbrev pub part_passer : Role → Tree × Passer → Environment → Environment
 part_passer (Name n) part env = named_behind env n (text_of part.0)
 part_passer Constant part env = constant_behind env
-part_passer (Formula f) part env = record env { quantified = env.quantified ++ bound_in_formula part.0 }
+part_passer (Formula f) part env = record env { quantified = with_texts env.quantified (bound_in_formula part.0) }
 part_passer (role.List l) part env = part.1 l env
 part_passer _ part env = env
 

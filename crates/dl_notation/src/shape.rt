@@ -15,7 +15,7 @@ use crate::tables::{
 use dl_tree::Tree;
 
 /// Whether a form with so many fixed parts has so many parts.
-pub(crate) fn has_room(fixed: usize, rest: Option<Role>, count: usize) -> bool
+pub fn has_room(fixed: usize, rest: Option<Role>, count: usize) -> bool
     ensures { result ≡ has_room rest fixed count }
 {
     match rest {
@@ -58,7 +58,7 @@ fn chosen(
 }
 
 /// The form of a list that begins with a word, where it has so many parts behind the word.
-pub(crate) fn headed_form(
+pub fn headed_form(
     list: ListRole,
     word: &str,
     count: usize,
@@ -96,7 +96,7 @@ pub(crate) fn headed_form(
 }
 
 /// The form of a list that begins with no word.
-pub(crate) fn headless_form(list: ListRole) -> Option<(&'static [Role], Option<Role>)>
+pub fn headless_form(list: ListRole) -> Option<(&'static [Role], Option<Role>)>
     ensures { MatchOption result (headless list ≡ None) (λ f. headless list ≡ Some (record { fixed = f.0.now; rest = f.1 })) }
 {
     match list {
@@ -152,7 +152,7 @@ pub fn begins_with(tree: &Tree, word: &str) -> bool
 }
 
 /// What the part with this number has to be.
-pub(crate) fn role_at(fixed: &[Role], rest: Option<Role>, i: usize) -> Option<Role>
+pub fn role_at(fixed: &[Role], rest: Option<Role>, i: usize) -> Option<Role>
     ensures { result ≡ role_at fixed.now rest i }
 {
     match fixed.get(i) {

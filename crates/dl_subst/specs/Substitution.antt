@@ -1,5 +1,7 @@
--- The four changes: a term for a variable, terms for the parts of a message, a term for another one, a label for `self`.
-use Rattle.std.specs.Prelude.{ℕ, pos, slice_get, false, ◌==◌, Option, Some, None, unwrap_or, if◌then◌else◌}
+-- The five changes: a term for a variable, terms for the parts of a message, a term for another one, a label for `self`, and
+-- terms for several variables at once.
+use Rattle.std.specs.Prelude.{ℕ, pos, slice_get, false, ◌==◌, List, [], ◌∷◌, Option, Some, None, unwrap_or, if◌then◌else◌}
+use Rattle.std.specs.List.{list_any}
 use Rattle.dl_term.specs.declared.syntax.Lab.{Lab}
 use Rattle.dl_term.specs.declared.syntax.Lab.TheVariants.{Own, At}
 use Rattle.dl_term.specs.declared.syntax.Part.{Part}
@@ -68,6 +70,29 @@ for_own own = record {
   stops_at_message = λ m. false;
 }
 
+-- of the terms for these variables the last one for this name, or else the one that was found
+abbrev pub term_for : (found : Term) → List ℕ → List Term → ℕ → Term
+term_for found [] terms x = found
+term_for found (y ∷ ys) [] x = found
+term_for found (y ∷ ys) (t ∷ ts) x = term_for (if x == y then t else found) ys ts x
+
+abbrev pub put_for_variables : List ℕ → List Term → Term → Option Term
+put_for_variables xs terms (Var x) = if list_any (λ y. x == y) xs then Some (term_for (Num (pos 0)) xs terms x) else None
+put_for_variables xs terms _ = None
+
+abbrev pub label_put : Lab → Lab → Lab
+label_put own Own = own
+label_put own (At label) = At label
+
+-- a term for each place of these variables, all at once, and the label for `self`; a variable past the last term has 0
+abbrev pub for_variables : List ℕ → List Term → Lab → Change
+for_variables xs terms own = record {
+  put = put_for_variables xs terms;
+  label = label_put own;
+  stops_at_variable = λ y. false;
+  stops_at_message = λ m. false;
+}
+
 -- the same names, with this label as `self`
 abbrev pub with_own : Names → ℕ → Names
 with_own names own = record { own = own; number = names.number; message = names.message }
@@ -86,3 +111,6 @@ with_label f own = changed (for_own own) f
 
 abbrev pub term_with_label : Term → ℕ → Term
 term_with_label t own = changed_term (for_own own) t
+
+abbrev pub terms_put : Formula → List ℕ → List Term → Lab → Formula
+terms_put f xs terms own = changed (for_variables xs terms own) f

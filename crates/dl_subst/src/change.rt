@@ -1,8 +1,11 @@
-//! The four changes, and the names that are bound around a place.
+//! The five changes, and the names that are bound around a place.
 
-ghost use Rattle.std.specs.Prelude.{◌≡◌};
+ghost use Rattle.std.specs.Prelude.{◌≡◌, ◌==◌, pos, unwrap_or};
+ghost use Rattle.std.specs.List.{list_any};
+ghost use Rattle.std.specs.Option.{option_copied};
+ghost use Rattle.dl_term.specs.declared.syntax.Term.{Num, Var};
 ghost use Rattle.dl_subst.specs.Code.{change_of, variables_of, messages_of, new_of};
-ghost use Rattle.dl_subst.specs.Substitution.{new_part};
+ghost use Rattle.dl_subst.specs.Substitution.{new_part, put_for_variables, term_for};
 
 use crate::message::NewMessage;
 use dl_term::{Lab, Part, Term, message_in, same_term, variable_in};
@@ -18,6 +21,8 @@ pub(crate) enum Change<'a> {
     ForTerm(&'a Term, &'a Term),
     /// A label for `self`.
     ForOwn(u8),
+    /// Terms for several variables, all at once, and a label for `self`.
+    ForVariables(&'a [u32], &'a [Term], Lab),
 }
 
 /// What comes in a term's place.
@@ -70,7 +75,49 @@ pub(crate) fn put_at<'a>(change: &Change<'a>, term: &Term) -> Place<'a>
             }
         }
         Change::ForOwn(_) => Place::Kept,
+        Change::ForVariables(syms, terms, _) => match term {
+            Term::Var(sym) => place_for(*syms, *terms, *sym),
+            _ => Place::Kept,
+        },
     }
+}
+
+// What comes in the place of a variable, where each of these has its term.
+fn place_for<'a>(syms: &[u32], terms: &'a [Term], sym: u32) -> Place<'a>
+    ensures { new_of result ≡ put_for_variables syms.now terms.now (Var sym) }
+{
+    if !is_among(syms, sym) {
+        return Place::Kept;
+    }
+    match last_for(syms, terms, sym, None) {
+        Some(term) => Place::New(term),
+        None => Place::Zero,
+    }
+}
+
+fn is_among(syms: &[u32], sym: u32) -> bool
+    ensures { result ≡ list_any (λ y. sym == y) syms.now }
+{
+    syms.iter().any(|other| sym == *other)
+}
+
+// The last term for the variable, or else the one that was found.
+fn last_for<'a>(
+    syms: &[u32],
+    terms: &'a [Term],
+    sym: u32,
+    found: Option<&'a Term>,
+) -> Option<&'a Term>
+    ensures { unwrap_or (option_copied result) (Num (pos 0)) ≡ term_for (unwrap_or (option_copied found.entry) (Num (pos 0))) syms.now terms.now sym }
+{
+    let Some((other, syms)) = syms.split_first() else {
+        return found;
+    };
+    let Some((term, terms)) = terms.split_first() else {
+        return found;
+    };
+    let found = if sym == *other { Some(term) } else { found };
+    last_for(syms, terms, sym, found)
 }
 
 fn part_of<'a>(new: &'a NewMessage, part: Part) -> Place<'a>
@@ -94,6 +141,7 @@ pub(crate) fn label(change: &Change, label: Lab) -> Lab
 {
     match (change, label) {
         (Change::ForOwn(own), Lab::Own) => Lab::At(*own),
+        (Change::ForVariables(_, _, own), Lab::Own) => *own,
         _ => label,
     }
 }
@@ -105,7 +153,7 @@ pub(crate) fn stops_at_variable(change: &Change, sym: u32) -> bool
     match change {
         Change::ForVariable(name, _) => sym == *name,
         Change::ForTerm(old, _) => variable_in(*old, sym),
-        Change::ForMessage(_, _) | Change::ForOwn(_) => false,
+        Change::ForMessage(_, _) | Change::ForOwn(_) | Change::ForVariables(_, _, _) => false,
     }
 }
 
@@ -116,7 +164,7 @@ pub(crate) fn stops_at_message(change: &Change, msg: u32) -> bool
     match change {
         Change::ForMessage(name, _) => msg == *name,
         Change::ForTerm(old, _) => message_in(*old, msg),
-        Change::ForVariable(_, _) | Change::ForOwn(_) => false,
+        Change::ForVariable(_, _) | Change::ForOwn(_) | Change::ForVariables(_, _, _) => false,
     }
 }
 

@@ -4,7 +4,7 @@ ghost use Rattle.std.specs.Prelude.{◌≡◌, ◌↔◌, ◌≤◌, ◌<◌, �
 ghost use Rattle.dl_term.specs.Measures.{formula_parts, is_oversized};
 ghost use Rattle.dl_subst.specs.Change.{Change as AnyChange, changed, captures};
 ghost use Rattle.dl_subst.specs.Code.{change_of};
-ghost use Rattle.dl_subst.specs.Substitution.{for_variable, for_message, for_term, substituted, message_substituted, replaced, with_label, term_with_label};
+ghost use Rattle.dl_subst.specs.Substitution.{for_variable, for_message, for_term, substituted, message_substituted, replaced, with_label, term_with_label, terms_put};
 
 use crate::build::{change_formula, change_term};
 use crate::captures::captures_name;
@@ -12,7 +12,7 @@ use crate::change::{Around, Change};
 use crate::faults::SubstFault;
 use crate::message::NewMessage;
 use crate::sizes::{depth_after, room_after};
-use dl_term::{DEEPEST_NESTING, Formula, LARGEST_SIZE, Term};
+use dl_term::{DEEPEST_NESTING, Formula, LARGEST_SIZE, Lab, Term};
 use std::alloc::{AllocError, Global};
 
 /// The formula with the term in each place where the variable is free.
@@ -109,6 +109,22 @@ pub fn term_at_label(alloc: Global, term: &Term, label: u8) -> Result<Term, Allo
     ensures { IfOk result (λ made. made ≡ term_with_label term.now label) }
 {
     change_term(alloc, &Change::ForOwn(label), term)
+}
+
+/// The formula with a term for each of these variables, all at once, and the label in place of `self`, with no look at
+/// captures or at the size. A variable past the last term becomes 0, and of one that stands twice the last term is put.
+/// No quantifier should bind one of the variables, since places below it are changed too. The one refusal is want of
+/// memory.
+pub fn put_terms(
+    alloc: Global,
+    formula: &Formula,
+    syms: &[u32],
+    terms: &[Term],
+    own: Lab,
+) -> Result<Formula, AllocError>
+    ensures { IfOk result (λ made. made ≡ terms_put formula.now syms.now terms.now own) }
+{
+    change_formula(alloc, &Change::ForVariables(&*syms, &*terms, own), formula)
 }
 
 fn make(alloc: Global, formula: &Formula, change: &Change) -> Result<Formula, SubstFault>

@@ -23,6 +23,3 @@ pub use measure::{
 pub use same::{same_formula, same_label, same_part, same_term};
 pub use syntax::{Env, Formula, Lab, Part, Sort, Term};
 pub use view::View;
-
-#[cfg(test)]
-mod tests;

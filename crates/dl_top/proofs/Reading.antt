@@ -1,10 +1,21 @@
 -- What a status says of the text that was read.
-use Rattle.std.proofs.Common.{◌≡◌, ℕ, ◌≤◌, ◌<◌, ◌↔◌, List, length, refl, arith}
+use Rattle.std.proofs.Common.{◌≡◌, ℕ, ◌≤◌, ◌<◌, ◌⊎◌, inl, inr, true, false, is_some, List, [], length, Some, None, Ok, refl, ap, subst, ◌∙◌, arith}
 use Rattle.std.specs.declared.option.Option.{Option}
 use Rattle.std.specs.Io.KnownBytes.{Consumes, IsAtEnd}
+use Rattle.std.proofs.KnownBytes.{Consumes-nil}
+use Rattle.dl_io.specs.Causes.{Rose}
+use Rattle.dl_io.specs.Whole.{ReadsWhole}
+use Rattle.dl_tree.specs.declared.tree.Place.{Place}
+use Rattle.dl_tree.specs.declared.tree.Tree.{Tree}
+use Rattle.dl_tree.specs.Spelling.{Spells}
+use Rattle.dl_faults.specs.Verdict.{first_fault}
+use Rattle.dl_check.specs.Early.{reading_fault}
+use Rattle.dl_check.specs.Answers.{IsRefused}
+use Rattle.dl_top.specs.declared.request.Command.{Command}
 use Rattle.dl_top.specs.declared.status.Status.{Status}
 use Rattle.dl_top.specs.declared.status.Status.TheVariants.{Done, Refused, Usage, ReadFault, WriteFault, NoMemory, Unended, TooLong}
-use Rattle.dl_top.specs.Endings.{ReadsText, IsOfWholeText, IsAfterText}
+use Rattle.dl_top.specs.Texts.{IsFaultless, HasFault, TextIsRefused}
+use Rattle.dl_top.specs.Endings.{Answers, Writes, IsTextOf, IsOfWholeText, IsAfterText, IsQuiet, HasWriteFaultCause}
 
 pub not-usage : (status : Status) → IsAfterText status → status ≡ Usage → ⊥
 not-usage Done h e = cc
@@ -36,32 +47,126 @@ not-read-fault ReadFault h e = h
 not-read-fault Unended h e = h
 not-read-fault TooLong h e = h
 
+-- ---- accepted texts have no fault, and refused ones have one
+
+pub accepted-faultless : (command : Option Command) (text output : List ℕ) → IsTextOf command text output → HasFault text → ⊥
+accepted-faultless None text output a h = a
+accepted-faultless (Some command) text output a h =
+    let accepted = a.2.accepted in
+    elim (h a.0 a.2.spelled) [
+      | inl e ↦ (let none : is_some (reading_fault a.0) ≡ false = ap is_some accepted.read.faultless in cc)
+      | inr every ↦ (let none : is_some (first_fault accepted.file) ≡ false = ap is_some accepted.faultless in cc (every accepted.file accepted.read))
+    ]
+
+pub tree-has-fault : (text : List ℕ) (tree : Tree) (rule : ℕ) (place : Place) (what : Option Tree) → Spells text tree → IsRefused tree rule place what → IsFaultless text → ⊥
+tree-has-fault text tree rule place what spelled (inl h) f = (let none = f.readable tree spelled in cc h.0)
+tree-has-fault text tree rule place what spelled (inr w) f = (let none = f.provable tree w.file spelled w.read in cc w.first)
+
+pub refused-has-fault : (text : List ℕ) (rule : ℕ) (place : Place) (what : Option Tree) → TextIsRefused text rule place what → IsFaultless text → ⊥
+refused-has-fault text rule place what (inl h) f = (let none = f.spelled in cc h.0)
+refused-has-fault text rule place what (inr r) f = tree-has-fault text r.tree rule place what r.spelled r.refused f
+
+-- a text that was read whole and has a fault is refused
+pub fault-refused : (command : Option Command) (text : List ℕ) (before now : ℕ) (old new : Option (List ℕ)) (status : Status) → Writes command text before now old new status →
+    HasFault text → IsOfWholeText status → status ≡ Refused
+fault-refused command text before now old new Done w h whole = absurd (accepted-faultless command text w.0 w.1 h)
+fault-refused command text before now old new WriteFault w h whole = absurd (accepted-faultless command text w.0 w.1 h)
+fault-refused command text before now old new Refused w h whole = refl
+fault-refused command text before now old new Unended w h whole = absurd w
+fault-refused command text before now old new Usage w h whole = absurd whole
+fault-refused command text before now old new ReadFault w h whole = absurd whole
+fault-refused command text before now old new NoMemory w h whole = absurd whole
+fault-refused command text before now old new TooLong w h whole = absurd whole
+
+-- a text that was read and has no fault is accepted, where the sink didn't fail and there was memory
+pub faultless-accepted : (command : Option Command) (text : List ℕ) (before now : ℕ) (old new : Option (List ℕ)) (status : Status) → Writes command text before now old new status →
+    IsAfterText status → HasWriteFaultCause before now status → IsFaultless text → IsQuiet before now → (status ≡ Done) ⊎ (status ≡ NoMemory)
+faultless-accepted command text before now old new Done w after cause f quiet = inl refl
+faultless-accepted command text before now old new NoMemory w after cause f quiet = inr refl
+faultless-accepted command text before now old new WriteFault w after cause f quiet = absurd (quiet (cause.failed refl))
+faultless-accepted command text before now old new Refused w after cause f quiet = absurd (refused-has-fault text w.1.0 w.1.1 w.1.2 w.1.3 f)
+faultless-accepted command text before now old new Usage w after cause f quiet = absurd after
+faultless-accepted command text before now old new ReadFault w after cause f quiet = absurd after
+faultless-accepted command text before now old new Unended w after cause f quiet = absurd after
+faultless-accepted command text before now old new TooLong w after cause f quiet = absurd after
+
+-- ---- the whole answer
+
 -- the text was read whole
-pub reads-after : (limit : ℕ) (old new : Option (List ℕ)) (given : List ℕ) → Consumes old new given → length given ≤ limit → IsAtEnd new →
-    (status : Status) → IsAfterText status → ReadsText limit old new status
-reads-after limit old new given consumed short ended status h = record {
-  text = given;
+pub answers-after : (command : Option Command) (limit : ℕ) (left left_behind : Option (List ℕ)) (reads_before reads_now : ℕ) (old new : Option (List ℕ)) (before now : ℕ) (status : Status)
+    (text : List ℕ) → Consumes left left_behind text → length text ≤ limit → IsAtEnd left_behind →
+    IsAfterText status → HasWriteFaultCause before now status → Writes command text before now old new status →
+    Answers command limit left left_behind reads_before reads_now old new before now status
+answers-after command limit left left_behind reads_before reads_now old new before now status text consumed short ended after cause written = record {
+  text = text;
   consumed = consumed;
   whole = λ _. (short, ended);
-  too_long = ((λ e. absurd (not-too-long status h e)), (λ (long : limit < length given). absurd (omega (arith, short, long))));
+  too_long = ((λ e. absurd (not-too-long status after e)), (λ (long : limit < length text). absurd (omega (arith, short, long))));
+  written = written;
+  refused = fault-refused command text before now old new status written;
+  complete = λ f _ _ _ quiet. faultless-accepted command text before now old new status written after cause f quiet;
 }
 
--- the text was not read whole, for another cause than its length
-pub reads-part : (limit : ℕ) (old new : Option (List ℕ)) (given : List ℕ) → Consumes old new given → length given ≤ limit →
-    (status : Status) → (IsOfWholeText status → ⊥) → (status ≡ TooLong → ⊥) → ReadsText limit old new status
-reads-part limit old new given consumed short status part other = record {
-  text = given;
+-- what was read is the text
+pub answers-read : {V : Type 0} (items : V → List ℕ) (value : V) (slice : List ℕ) (command : Option Command) (limit : ℕ) (left left_behind : Option (List ℕ)) (reads_before reads_now : ℕ)
+    (old new : Option (List ℕ)) (before now : ℕ) (status : Status) → ReadsWhole items limit left left_behind (Ok value) → slice ≡ items value →
+    IsAfterText status → HasWriteFaultCause before now status → Writes command slice before now old new status →
+    Answers command limit left left_behind reads_before reads_now old new before now status
+answers-read items value slice command limit left left_behind reads_before reads_now old new before now status read same after cause written =
+    answers-after command limit left left_behind reads_before reads_now old new before now status read.given read.consumed read.answer.1 read.answer.2 after cause
+    (subst (λ text. Writes command text before now old new status) (same ∙ read.answer.0) written)
+
+-- the source failed
+pub answers-read-fault : (command : Option Command) (limit : ℕ) (left left_behind : Option (List ℕ)) (reads_before reads_now : ℕ) (old new : Option (List ℕ)) (before now : ℕ)
+    (text : List ℕ) → Consumes left left_behind text → length text ≤ limit → Rose reads_before reads_now → Writes command text before now old new ReadFault →
+    Answers command limit left left_behind reads_before reads_now old new before now ReadFault
+answers-read-fault command limit left left_behind reads_before reads_now old new before now text consumed short rose written = record {
+  text = text;
   consumed = consumed;
-  whole = λ w. absurd (part w);
-  too_long = ((λ e. absurd (other e)), (λ (long : limit < length given). absurd (omega (arith, short, long))));
+  whole = λ w. absurd w;
+  too_long = ((λ (e : ReadFault ≡ TooLong). cc), (λ (long : limit < length text). absurd (omega (arith, short, long))));
+  written = written;
+  refused = λ _ w. absurd w;
+  complete = λ _ _ _ quiet _. absurd (quiet rose);
+}
+
+-- there was no memory for the text
+pub answers-no-memory : (command : Option Command) (limit : ℕ) (left left_behind : Option (List ℕ)) (reads_before reads_now : ℕ) (old new : Option (List ℕ)) (before now : ℕ)
+    (text : List ℕ) → Consumes left left_behind text → length text ≤ limit → Writes command text before now old new NoMemory →
+    Answers command limit left left_behind reads_before reads_now old new before now NoMemory
+answers-no-memory command limit left left_behind reads_before reads_now old new before now text consumed short written = record {
+  text = text;
+  consumed = consumed;
+  whole = λ w. absurd w;
+  too_long = ((λ (e : NoMemory ≡ TooLong). cc), (λ (long : limit < length text). absurd (omega (arith, short, long))));
+  written = written;
+  refused = λ _ w. absurd w;
+  complete = λ _ _ _ _ _. inr refl;
 }
 
 -- the text is too long
-pub reads-long : (limit : ℕ) (old new : Option (List ℕ)) (given : List ℕ) → Consumes old new given → limit < length given →
-    ReadsText limit old new TooLong
-reads-long limit old new given consumed long = record {
-  text = given;
+pub answers-too-long : (command : Option Command) (limit : ℕ) (left left_behind : Option (List ℕ)) (reads_before reads_now : ℕ) (old new : Option (List ℕ)) (before now : ℕ)
+    (text : List ℕ) → Consumes left left_behind text → limit < length text → Writes command text before now old new TooLong →
+    Answers command limit left left_behind reads_before reads_now old new before now TooLong
+answers-too-long command limit left left_behind reads_before reads_now old new before now text consumed long written = record {
+  text = text;
   consumed = consumed;
   whole = λ w. absurd w;
   too_long = ((λ _. long), (λ _. refl));
+  written = written;
+  refused = λ _ w. absurd w;
+  complete = λ _ _ (short : length text ≤ limit) _ _. absurd (omega (arith, short, long));
+}
+
+-- the words name no command
+pub answers-usage : (limit : ℕ) (left : Option (List ℕ)) (reads : ℕ) (old new : Option (List ℕ)) (before now : ℕ) → Writes None [] before now old new Usage →
+    Answers None limit left left reads reads old new before now Usage
+answers-usage limit left reads old new before now written = record {
+  text = [];
+  consumed = Consumes-nil left;
+  whole = λ w. absurd w;
+  too_long = ((λ (e : Usage ≡ TooLong). cc), (λ (long : limit < 0). absurd (omega (arith, long))));
+  written = written;
+  refused = λ _ w. absurd w;
+  complete = λ _ (known : false ≡ true) _ _ _. cc;
 }

@@ -1,14 +1,21 @@
 -- What a command did to its source and its sink.
-use Rattle.std.specs.Prelude.{◌≡◌, ℕ, ◌≤◌, ◌<◌, ◌↔◌, ◌⊎◌, List, [], length, Option, string_bytes}
+use Rattle.std.specs.Prelude.{◌≡◌, ℕ, ◌≤◌, ◌<◌, ◌↔◌, ◌⊎◌, true, List, [], length, Option, Some, None, is_some}
 use Rattle.std.specs.Io.KnownBytes.{Consumes, Appends, IsAtEnd}
 use Rattle.dl_io.specs.Causes.{Rose}
 use Rattle.dl_io.specs.Whole.{WritesFront}
 use Rattle.dl_tree.specs.declared.tree.Place.{Place}
+use Rattle.dl_tree.specs.declared.tree.Tree.{Tree}
+use Rattle.dl_tree.specs.Layout.{layout}
+use Rattle.dl_file.specs.declared.answer.Accepted.{Accepted}
+use Rattle.dl_file.specs.declared.answer.Fault.{Fault}
+use Rattle.dl_file.specs.declared.answer.Fault.TheVariants.{At, Memory}
+use Rattle.dl_check.specs.Answers.{IsAccepted, IsRefused}
+use Rattle.dl_top.specs.declared.request.Command.{Command}
+use Rattle.dl_top.specs.declared.request.Command.TheVariants.{Check, Show}
 use Rattle.dl_top.specs.declared.status.Status.{Status}
 use Rattle.dl_top.specs.declared.status.Status.TheVariants.{Done, Refused, Usage, ReadFault, WriteFault, NoMemory, Unended, TooLong}
-use Rattle.dl_top.specs.declared.commands.Refusal.{Refusal}
-use Rattle.dl_top.specs.declared.commands.Refusal.TheVariants.{Line, Memory}
-use Rattle.dl_top.specs.Lines.{Counts, usage_line, read_fault_line, too_long_line, accepted_line, refusal_line}
+use Rattle.dl_top.specs.Lines.{usage_line, read_fault_line, too_long_line, accepted_line, refusal_line}
+use Rattle.dl_top.specs.Texts.{TextIsAccepted, TextIsRefused, IsFaultless, HasFault}
 
 -- a text was read whole before this answer
 abbrev pub IsOfWholeText : Status → Type 0
@@ -17,13 +24,6 @@ IsOfWholeText Refused = Unit {0}
 IsOfWholeText WriteFault = Unit {0}
 IsOfWholeText Unended = Unit {0}
 IsOfWholeText _ = ⊥
-
--- The source gave some bytes in this call. They are the whole text where one is answered, and too many exactly where that is answered.
-pub record ReadsText (limit : ℕ) (old new : Option (List ℕ)) (status : Status) : Type 0 where
-  pub text : List ℕ
-  pub consumed : Consumes old new text
-  pub whole : IsOfWholeText status → (length text ≤ limit) × IsAtEnd new
-  pub too_long : (status ≡ TooLong) ↔ (limit < length text)
 
 -- something was being written when the status was answered
 abbrev pub IsOfWriting : Status → Type 0
@@ -44,16 +44,49 @@ pub record HasWriteFaultCause (before now : ℕ) (status : Status) : Type 0 wher
 abbrev pub WritesLine : ℕ → ℕ → Option (List ℕ) → Option (List ℕ) → List ℕ → Type 0
 WritesLine before now old new line = Appends old new line ⊎ (Rose before now × WritesFront old new line)
 
--- what was written with each status: a line of its own, the text of the command, a front of it, or nothing
-abbrev pub Writes : ℕ → ℕ → Option (List ℕ) → Option (List ℕ) → Status → Type 0
-Writes before now old new Done = (counts : Counts) × Appends old new (accepted_line counts)
-Writes before now old new WriteFault = (counts : Counts) × WritesFront old new (accepted_line counts)
-Writes before now old new Refused = (rule : ℕ) × (name : List ℕ) × (place : Place) × (what : List ℕ) × WritesLine before now old new (refusal_line rule name place what)
-Writes before now old new Usage = WritesLine before now old new usage_line
-Writes before now old new ReadFault = WritesLine before now old new read_fault_line
-Writes before now old new TooLong = WritesLine before now old new too_long_line
-Writes before now old new NoMemory = Appends old new []
-Writes before now old new Unended = ⊥
+-- what a command writes of an accepted tree: the counts of its file, or the tree in its one layout
+abbrev pub text_of : Command → Tree → Accepted → List ℕ
+text_of Check tree accepted = accepted_line accepted
+text_of Show tree accepted = layout tree
+
+-- the text that a command writes of a text that is accepted
+abbrev pub IsTextOf : Option Command → List ℕ → List ℕ → Type 0
+IsTextOf (Some command) text output = (tree : Tree) × (accepted : Accepted) × TextIsAccepted text tree accepted × (output ≡ text_of command tree accepted)
+IsTextOf None text output = ⊥
+
+-- the line of a text's first fault
+abbrev pub IsRefusalOf : List ℕ → List ℕ → Type 0
+IsRefusalOf text line = (rule : ℕ) × (place : Place) × (what : Option Tree) × TextIsRefused text rule place what × (line ≡ refusal_line rule place what)
+
+-- What was written with each status: the text of the command, a front of it, a line of its own, or nothing. Of a text that was read
+-- whole it is what the command writes where the text is accepted, or the line of its first fault.
+abbrev pub Writes : Option Command → List ℕ → ℕ → ℕ → Option (List ℕ) → Option (List ℕ) → Status → Type 0
+Writes command text before now old new Done = (output : List ℕ) × IsTextOf command text output × Appends old new output
+Writes command text before now old new WriteFault = (output : List ℕ) × IsTextOf command text output × WritesFront old new output
+Writes command text before now old new Refused = (line : List ℕ) × IsRefusalOf text line × WritesLine before now old new line
+Writes command text before now old new Usage = WritesLine before now old new usage_line
+Writes command text before now old new ReadFault = WritesLine before now old new read_fault_line
+Writes command text before now old new TooLong = WritesLine before now old new too_long_line
+Writes command text before now old new NoMemory = Appends old new []
+Writes command text before now old new Unended = ⊥
+
+-- a count stayed below a counter's last value and as it was
+abbrev pub IsQuiet : ℕ → ℕ → Type 0
+IsQuiet before now = Rose before now → ⊥
+
+-- The source gave some bytes in this call. They are the whole text where one is answered, and too many exactly where that is answered;
+-- and what was written is what belongs to the command, to this text and to the status. A text that was read whole and has a fault is
+-- refused. A text without a fault is accepted, unless it is too long, a count rose, or memory is wanting.
+pub record Answers (command : Option Command) (limit : ℕ) (left left_behind : Option (List ℕ)) (reads_before reads_now : ℕ) (old new : Option (List ℕ)) (before now : ℕ) (status : Status) : Type 0 where
+  pub text : List ℕ
+  pub consumed : Consumes left left_behind text
+  pub whole : IsOfWholeText status → (length text ≤ limit) × IsAtEnd left_behind
+  pub too_long : (status ≡ TooLong) ↔ (limit < length text)
+  pub written : Writes command text before now old new status
+  pub refused : HasFault text → IsOfWholeText status → status ≡ Refused
+  pub complete : IsFaultless text → is_some command ≡ true → length text ≤ limit → IsQuiet reads_before reads_now → IsQuiet before now → (status ≡ Done) ⊎ (status ≡ NoMemory)
+
+-- ---- what private calls answer
 
 -- the status belongs to a text that was read whole
 abbrev pub IsAfterText : Status → Type 0
@@ -63,11 +96,16 @@ IsAfterText Refused = Unit {0}
 IsAfterText WriteFault = Unit {0}
 IsAfterText _ = ⊥
 
--- the line of some accepted file
-abbrev pub IsAccepted : List ℕ → Type 0
-IsAccepted line = (counts : Counts) × (line ≡ accepted_line counts)
+-- what a command writes of a tree
+abbrev pub IsTextOfTree : Command → Tree → List ℕ → Type 0
+IsTextOfTree command tree output = (accepted : Accepted) × IsAccepted tree accepted × (output ≡ text_of command tree accepted)
 
--- the line of some refusal, or want of memory
-abbrev pub IsRefusal : Refusal → Type 0
-IsRefusal (Line line) = (rule : ℕ) × (name : List ℕ) × (place : Place) × (what : List ℕ) × (string_bytes line ≡ refusal_line rule name place what)
-IsRefusal Memory = Unit {0}
+-- a tree's first fault, or want of memory
+abbrev pub IsFaultOfTree : Tree → Fault → Type 0
+IsFaultOfTree tree (At rule place what) = IsRefused tree rule place what
+IsFaultOfTree tree Memory = Unit {0}
+
+-- a text's first fault, or want of memory
+abbrev pub IsFaultOf : List ℕ → Fault → Type 0
+IsFaultOf text (At rule place what) = TextIsRefused text rule place what
+IsFaultOf text Memory = Unit {0}

@@ -1,4 +1,5 @@
 pub mod Endings
 pub mod Lines
 pub mod Statuses
+pub mod Texts
 pub mod Words

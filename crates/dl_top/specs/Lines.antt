@@ -1,7 +1,9 @@
 -- The lines that the program writes, each with its LF.
-use Rattle.std.specs.Prelude.{ℕ, List, [], ◌∷◌, ◌++◌, codes, decimal}
+use Rattle.std.specs.Prelude.{ℕ, List, [], ◌∷◌, ◌++◌, Option, Some, None, codes, decimal, if◌then◌else◌, ◌==◌}
 use Rattle.dl_tree.specs.declared.tree.Place.{Place}
-use Rattle.dl_check.specs.declared.check.Accepted.{Accepted}
+use Rattle.dl_tree.specs.declared.tree.Tree.{Tree}
+use Rattle.dl_tree.specs.Layout.{layout}
+use Rattle.dl_file.specs.declared.answer.Accepted.{Accepted}
 
 abbrev pub usage_line : List ℕ
 usage_line = codes "usage: disel check | show | run [--serial] [--budget B] [--order oldest|newest|seed:S] | gen K [--sum]" ++ (10 ∷ [])
@@ -12,23 +14,11 @@ read_fault_line = codes "fault read" ++ (10 ∷ [])
 abbrev pub too_long_line : List ℕ
 too_long_line = codes "refused text longer than 1048576" ++ (10 ∷ [])
 
--- how much an accepted file has
-pub record Counts : Type 0 where
-  pub nodes : ℕ
-  pub labels : ℕ
-  pub hooks : ℕ
-  pub invariants : ℕ
-  pub programs : ℕ
-  pub obligations : ℕ
-
-abbrev pub counts_of : Accepted → Counts
-counts_of a = record { nodes = a.nodes; labels = a.labels; hooks = a.hooks; invariants = a.invariants; programs = a.programs; obligations = a.obligations }
-
 -- a line with a word and a number behind it
 abbrev pub with_count : List ℕ → List ℕ → ℕ → List ℕ
 with_count line label count = line ++ (label ++ decimal count)
 
-abbrev pub accepted_line : Counts → List ℕ
+abbrev pub accepted_line : Accepted → List ℕ
 accepted_line counts =
     let nodes = with_count [] (codes "accepted nodes ") counts.nodes in
     let labels = with_count nodes (codes " labels ") counts.labels in
@@ -37,8 +27,49 @@ accepted_line counts =
     let programs = with_count invariants (codes " programs ") counts.programs in
     with_count programs (codes " obligations ") counts.obligations ++ (10 ∷ [])
 
--- a refusal: the number of the rule, its name, the place, and what is named there, with a blank in front
-abbrev pub refusal_line : ℕ → List ℕ → Place → List ℕ → List ℕ
-refusal_line rule name place what =
-    codes "refused " ++ (decimal rule ++ (codes " " ++ (name ++ (codes " "
-    ++ (decimal place.line ++ (codes ":" ++ (decimal place.col ++ (what ++ (10 ∷ [])))))))))
+-- the names of the rules of refusals
+abbrev pub rule_names : List (ℕ × List ℕ)
+rule_names =
+    (1, codes "BadByte") ∷
+    (2, codes "BadToken") ∷
+    (3, codes "Unclosed") ∷
+    (4, codes "Stray") ∷
+    (5, codes "Deep") ∷
+    (6, codes "BigNumber") ∷
+    (9, codes "NotYet") ∷
+    (10, codes "BadForm") ∷
+    (11, codes "Unknown") ∷
+    (12, codes "Twice") ∷
+    (13, codes "Shadow") ∷
+    (14, codes "BadSort") ∷
+    (15, codes "Arity") ∷
+    (16, codes "Wide") ∷
+    (20, codes "NoLabel") ∷
+    (21, codes "HookCoreMissing") ∷
+    (22, codes "HookNotCovered") ∷
+    (23, codes "FrameTouches") ∷
+    (24, codes "InvariantOutside") ∷
+    (30, codes "NoScript") ∷
+    (31, codes "ExtraScript") ∷
+    (32, codes "RuleFails") ∷
+    (33, codes "Limit") ∷
+    []
+
+abbrev pub name_in : List (ℕ × List ℕ) → ℕ → List ℕ
+name_in [] rule = codes "Unknown"
+name_in (named ∷ more) rule = if rule == named.0 then named.1 else name_in more rule
+
+-- the name of a rule
+abbrev pub rule_name : ℕ → List ℕ
+rule_name rule = name_in rule_names rule
+
+-- what is named in a refusal, with a blank in front
+abbrev pub named_line : Option Tree → List ℕ
+named_line None = []
+named_line (Some tree) = 32 ∷ layout tree
+
+-- a refusal: the number of the rule, its name, the place, and what is named there
+abbrev pub refusal_line : ℕ → Place → Option Tree → List ℕ
+refusal_line rule place what =
+    let head = codes "refused " ++ (decimal rule ++ (codes " " ++ (rule_name rule ++ (codes " " ++ (decimal place.line ++ (codes ":" ++ decimal place.col)))))) in
+    (head ++ named_line what) ++ (10 ∷ [])

@@ -1,10 +1,10 @@
 //! The lines that the program writes.
 
-ghost use Rattle.std.specs.Prelude.{◌≡◌, IfOk, OnOk, string_bytes};
-ghost use Rattle.dl_top.specs.Lines.{accepted_line as line_of_counts, refusal_line as line_of_refusal, counts_of, with_count};
+ghost use Rattle.std.specs.Prelude.{◌≡◌, ◌++◌, IfOk, OnOk, string_bytes};
+ghost use Rattle.dl_top.specs.Lines.{accepted_line as line_of_counts, refusal_line as line_of_refusal, rule_name as name_of_rule, named_line, with_count};
 
-use dl_check::Accepted;
-use dl_tree::Place;
+use dl_file::Accepted;
+use dl_tree::{Place, Tree, write_tree};
 use std::alloc::{AllocError, Global};
 
 /// What is written where the words name no command.
@@ -18,7 +18,9 @@ pub(crate) const READ_FAULT: &str = "fault read\n";
 pub(crate) const TOO_LONG: &str = "refused text longer than 1048576\n";
 
 /// The name of a rule of refusals.
-pub(crate) fn rule_name(rule: u8) -> &'static str {
+fn rule_name(rule: u8) -> &'static str
+    ensures { result.now ≡ name_of_rule rule }
+{
     match rule {
         1 => "BadByte",
         2 => "BadToken",
@@ -27,9 +29,37 @@ pub(crate) fn rule_name(rule: u8) -> &'static str {
         5 => "Deep",
         6 => "BigNumber",
         9 => "NotYet",
+        10 => "BadForm",
+        11 => "Unknown",
+        12 => "Twice",
+        13 => "Shadow",
+        14 => "BadSort",
+        15 => "Arity",
+        16 => "Wide",
+        20 => "NoLabel",
+        21 => "HookCoreMissing",
+        22 => "HookNotCovered",
+        23 => "FrameTouches",
+        24 => "InvariantOutside",
         30 => "NoScript",
+        31 => "ExtraScript",
         32 => "RuleFails",
-        _ => "Limit",
+        33 => "Limit",
+        _ => "Unknown",
+    }
+}
+
+/// Appends what is named in a refusal, with a blank in front.
+fn add_named(alloc: Global, line: &mut Vec<u8>, what: &Option<Tree>) -> Result<(), AllocError>
+    ensures { OnOk result (line.new.items ≡ line.old.items ++ named_line what.now) }
+{
+    match what {
+        None => Ok(()),
+        Some(tree) => {
+            let named = write_tree(alloc, tree)?;
+            line.push(b' ')?;
+            line.extend_from_slice(named.as_slice())
+        }
     }
 }
 
@@ -38,19 +68,24 @@ pub(crate) fn rule_name(rule: u8) -> &'static str {
 pub(crate) fn refusal_line(
     alloc: Global,
     rule: u8,
-    name: &str,
     place: Place,
-    what: &str,
-) -> Result<String, AllocError>
-    ensures { IfOk result (λ line. string_bytes line ≡ line_of_refusal rule name.now place what.now) }
+    what: &Option<Tree>,
+) -> Result<Vec<u8>, AllocError>
+    ensures { IfOk result (λ line. line.items ≡ line_of_refusal rule place what.now) }
 {
-    let line = place.line;
+    let name = rule_name(rule);
+    let row = place.line;
     let col = place.col;
-    format!(in alloc; "refused {rule} {name} {line}:{col}{what}\n")
+    let head = format!(in alloc; "refused {rule} {name} {row}:{col}")?;
+    let mut line = Vec::new(alloc);
+    line.extend_from_slice(head.as_str().as_bytes())?;
+    add_named(alloc, &mut line, what)?;
+    line.push(b'\n')?;
+    Ok(line)
 }
 
 /// Appends a word and a number.
-fn add_count(line: &mut String, label: &str, count: usize) -> Result<(), AllocError>
+fn add_count(line: &mut String, label: &str, count: u32) -> Result<(), AllocError>
     ensures { OnOk result (string_bytes line.new ≡ with_count (string_bytes line.old) label.now count) }
 {
     write!(line, "{label}{count}")
@@ -58,7 +93,7 @@ fn add_count(line: &mut String, label: &str, count: usize) -> Result<(), AllocEr
 
 /// The line of an accepted file.
 pub(crate) fn accepted_line(alloc: Global, accepted: &Accepted) -> Result<String, AllocError>
-    ensures { IfOk result (λ line. string_bytes line ≡ line_of_counts (counts_of accepted.now)) }
+    ensures { IfOk result (λ line. string_bytes line ≡ line_of_counts accepted.now) }
 {
     let mut line = String::new(alloc);
     add_count(&mut line, "accepted nodes ", accepted.nodes)?;

@@ -5,4 +5,6 @@
 pub enum Command {
     /// Check the text that the source gives.
     Check,
+    /// Check it, and write it in its one layout.
+    Show,
 }

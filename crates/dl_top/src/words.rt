@@ -44,6 +44,7 @@ pub fn command(words: &[Word]) -> Option<Command>
 {
     match words {
         [word] if word.as_str() == "check" => Some(Command::Check),
+        [word] if word.as_str() == "show" => Some(Command::Show),
         _ => None,
     }
 }

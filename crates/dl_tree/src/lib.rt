@@ -14,6 +14,3 @@ pub use laws::one_tree;
 pub use reader::{TreeFault, read_tree};
 pub use tree::{Name, Place, Tree};
 pub use writer::write_tree;
-
-#[cfg(test)]
-mod tests;

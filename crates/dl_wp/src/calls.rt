@@ -124,8 +124,8 @@ fn sent_message(alloc: Global, step: &SendStep) -> Result<NewMessage, AllocError
     })
 }
 
-// The arguments of a message. A tag has at most 8.
-fn message_args(msg: u32) -> [Term; 8]
+/// The arguments of a message. A tag has at most 8.
+pub fn message_args(msg: u32) -> [Term; 8]
     ensures { result ≡ args_of_message msg }
 {
     [

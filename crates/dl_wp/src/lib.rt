@@ -18,10 +18,9 @@ mod room;
 mod sight;
 mod steps;
 
-pub use calls::{at_init, before_receive, before_send};
+pub use calls::{at_init, before_receive, before_send, message_args};
 pub use faults::WpFault;
 pub use laws::{first_states_hold, receives_hold, sends_hold};
+pub use plan::{Sight, spoken_of, tag_of};
+pub use sight::seen;
 pub use steps::{ReceiveStep, SendStep};
-
-#[cfg(test)]
-mod tests;

@@ -23,18 +23,19 @@ pub(crate) const FROM: u32 = 6;
 
 /// What the names of a protocol are in a step.
 #[derive(Clone, Copy)]
-pub(crate) struct Sight<'a> {
+pub struct Sight<'a> {
     /// The label that stands for `self`.
-    pub(crate) label: Lab,
+    pub label: Lab,
     /// The node that makes the step, which stands for `me`.
-    pub(crate) node: &'a Term,
+    pub node: &'a Term,
     /// The word for the other node: `to` in a send, `from` in a receive.
-    pub(crate) word: u32,
-    pub(crate) other: &'a Term,
+    pub word: u32,
+    /// The other node.
+    pub other: &'a Term,
     /// The arguments of the tag.
-    pub(crate) params: &'a [(u32, Sort)],
+    pub params: &'a [(u32, Sort)],
     /// A term for each of them.
-    pub(crate) args: &'a [Term],
+    pub args: &'a [Term],
 }
 
 /// What becomes of messages.
@@ -56,11 +57,7 @@ pub(crate) struct Plan<'a> {
 }
 
 /// The protocol of a label. Where `self` has a protocol, no other label has one.
-pub(crate) fn spoken_of<'a>(
-    inst: &'a Instances,
-    own: Option<u8>,
-    label: Lab,
-) -> Option<&'a Protocol>
+pub fn spoken_of<'a>(inst: &'a Instances, own: Option<u8>, label: Lab) -> Option<&'a Protocol>
     ensures { option_copied result ≡ spoken_in inst.now own label }
 {
     match (own, label) {
@@ -74,12 +71,7 @@ pub(crate) fn spoken_of<'a>(
 }
 
 /// The tag of a step, or None where there is no such tag, of which no step can be made.
-pub(crate) fn tag_of<'a>(
-    inst: &'a Instances,
-    own: Option<u8>,
-    label: Lab,
-    tag: u8,
-) -> Option<&'a Tag>
+pub fn tag_of<'a>(inst: &'a Instances, own: Option<u8>, label: Lab, tag: u8) -> Option<&'a Tag>
     ensures { unwrap_or (option_copied result) no_tag ≡ tag_in (spoken_in inst.now own label) tag }
 {
     match spoken_of(inst, own, label) {

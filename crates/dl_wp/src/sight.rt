@@ -12,10 +12,11 @@ use dl_term::{Term, copy_term};
 use sqlite_items::Boxed;
 use std::alloc::{AllocError, Global};
 
-/// The term with the step's terms for the names of the protocol, and its label for `self`.
+/// The term with the step's terms for the names of the protocol, and its label for `self`. The one refusal is want of
+/// memory.
 #[cycle(seen)]
 #[tactic(auto, unfolding(dl_term::specs::Syntax::opened))]
-pub(crate) fn seen(alloc: Global, sight: &Sight, term: &Term) -> Result<Term, AllocError>
+pub fn seen(alloc: Global, sight: &Sight, term: &Term) -> Result<Term, AllocError>
     ensures { IfOk result (λ made. made ≡ changed_term (sight_of sight.now) term.now) }
 {
     match term {

@@ -1,0 +1,4 @@
+pub mod BoundLemmas
+pub mod KeyLemmas
+pub mod OnceLemmas
+pub mod FileLemmas

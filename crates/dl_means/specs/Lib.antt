@@ -1,0 +1,9 @@
+pub mod Before
+pub mod Flat
+pub mod Points
+pub mod Says
+pub mod Stands
+pub mod Means
+pub mod Seen
+pub mod Facts
+pub mod Examples

@@ -1,0 +1,44 @@
+-- What the check of a text answers, and what it is that a text has a fault or has none.
+use Rattle.std.specs.Prelude.{◌≡◌, ◌⊎◌, ℕ, true, List, Option, Some, None, is_some}
+use Rattle.dl_tree.specs.declared.tree.Place.{Place}
+use Rattle.dl_tree.specs.declared.tree.Tree.{Tree}
+use Rattle.dl_tree.specs.Faults.{fault_of}
+use Rattle.dl_tree.specs.Spelling.{Spells}
+use Rattle.dl_model.specs.Safe.{EachRunIsSafe}
+use Rattle.dl_file.specs.declared.answer.Accepted.{Accepted}
+use Rattle.dl_file.specs.declared.file.File.{File}
+use Rattle.dl_faults.specs.Verdict.{first_fault}
+use Rattle.dl_check.specs.Early.{reading_fault}
+use Rattle.dl_check.specs.Reading.{IsRead}
+use Rattle.dl_check.specs.Answers.{IsAccepted, IsRefused}
+
+-- The text spells the tree, which means a formed file without a fault. Every run of this file is safe: in each of its states each
+-- coherence of the composed world and each invariant holds, and each send of a program meets its guard and its hooks.
+pub record TextIsAccepted (text : List ℕ) (tree : Tree) (counts : Accepted) : Type 0 where
+  pub spelled : Spells text tree
+  pub accepted : IsAccepted tree counts
+  pub safe : EachRunIsSafe accepted.file.decls
+
+pub record TreeIsRefused (text : List ℕ) (rule : ℕ) (place : Place) (what : Option Tree) : Type 0 where
+  pub tree : Tree
+  pub spelled : Spells text tree
+  pub refused : IsRefused tree rule place what
+
+-- The first fault of a text: one of its bytes or tokens, and then it spells no tree, or else one of the tree that it spells.
+abbrev pub TextIsRefused : List ℕ → ℕ → Place → Option Tree → Type 0
+TextIsRefused text rule place what = ((fault_of text ≡ Some (rule, place)) × (what ≡ None)) ⊎ TreeIsRefused text rule place what
+
+-- The text has no fault: none of its bytes and tokens, none of form, names and sorts in the tree that it spells, and none of worlds
+-- and obligations in a formed file that this tree means.
+pub record IsFaultless (text : List ℕ) : Type 0 where
+  pub spelled : fault_of text ≡ None
+  pub readable : (tree : Tree) → Spells text tree → reading_fault tree ≡ None
+  pub provable : (tree : Tree) (file : File) → Spells text tree → IsRead tree file → first_fault file ≡ None
+
+-- The tree has a fault of form, names or sorts, or each formed file that it means has one of worlds or obligations.
+abbrev pub TreeHasFault : Tree → Type 0
+TreeHasFault tree = (is_some (reading_fault tree) ≡ true) ⊎ ((file : File) → IsRead tree file → is_some (first_fault file) ≡ true)
+
+-- The text has a fault: it spells no tree, or the tree that it spells has one.
+abbrev pub HasFault : List ℕ → Type 0
+HasFault text = (tree : Tree) → Spells text tree → TreeHasFault tree

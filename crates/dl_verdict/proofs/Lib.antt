@@ -1,0 +1,7 @@
+mod KeyLemmas
+mod Tables
+mod Spots
+mod ExtraLemmas
+mod Judged
+mod PartLemmas
+mod Answered

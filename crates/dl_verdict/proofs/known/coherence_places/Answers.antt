@@ -1,0 +1,7 @@
+use Rattle.dl_faults.specs.Places.{coherence_place}
+use Rattle.dl_verdict.proofs.Spots.{one-further}
+use Rattle.dl_verdict.proofs.known.coherence_places.Goals as goal
+
+pub loop-number-preserved : goal.loop-number-preserved
+loop-number-preserved c =
+    one-further (coherence_place c.args.tree.now) c.loop-number.places c.push.new.self c.coherence_place.result c.loop-number.number c.loop-number.invariant c.coherence_place.ensures c.in_ok-push.ensures.ok
