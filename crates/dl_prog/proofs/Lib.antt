@@ -1,0 +1,6 @@
+pub mod SlotLemmas
+pub mod ValueLemmas
+pub mod PlaceLemmas
+pub mod Moving
+pub mod Replying
+pub mod FormedLemmas

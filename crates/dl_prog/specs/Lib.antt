@@ -1,0 +1,5 @@
+pub mod Slots
+pub mod Stack
+pub mod Places
+pub mod Ready
+pub mod Moves
