@@ -6,8 +6,10 @@
 A small program over dl_subst, whose text is bench/subst_time.rt.txt, is built and run in a copy of the
 crates that it needs, in a temporary folder that is removed at the end. It substitutes a variable that
 stands at every leaf of a formula of about 10^5 parts, and of one of eight times as many. Two lines have
-the parts and the least of five times, and the last the ratio of the times: about 8 where the time is
-linear in the size. What was proved of the two crates before is taken over. Nothing here is a test: the lines are to be read.
+the parts and the least of five times, and the last the ratio of the times. It may well be more than 8
+though the work is 8 times as much, since the larger formula costs more for memory; docs/PERFORMANCE.md
+has the instructions that were counted. What was proved of the two crates before is taken over. Nothing
+here is a test: the lines are to be read.
 """
 import os
 import shutil
