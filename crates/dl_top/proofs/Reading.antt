@@ -1,5 +1,5 @@
 -- What a status says of the text that was read.
-use Rattle.std.proofs.Common.{◌≡◌, ℕ, ◌≤◌, ◌<◌, ◌⊎◌, inl, inr, true, false, is_some, List, [], length, Some, None, Ok, refl, ap, subst, ◌∙◌, arith}
+use Rattle.std.proofs.Common.{◌≡◌, ℕ, ◌≤◌, ◌<◌, ◌↔◌, ◌⊎◌, inl, inr, true, false, is_some, List, [], length, Some, None, Ok, refl, ap, subst, ◌∙◌, arith}
 use Rattle.std.specs.declared.option.Option.{Option}
 use Rattle.std.specs.Io.KnownBytes.{Consumes, IsAtEnd}
 use Rattle.std.proofs.KnownBytes.{Consumes-nil}
@@ -7,14 +7,25 @@ use Rattle.dl_io.specs.Causes.{Rose}
 use Rattle.dl_io.specs.Whole.{ReadsWhole}
 use Rattle.dl_tree.specs.declared.tree.Place.{Place}
 use Rattle.dl_tree.specs.declared.tree.Tree.{Tree}
+use Rattle.dl_tree.specs.Faults.{fault_of}
 use Rattle.dl_tree.specs.Spelling.{Spells}
+use Rattle.dl_tree.proofs.SpellLemmas.{spelled_faultless}
+use Rattle.dl_tree.proofs.OnceLemmas.{spells_once}
+use Rattle.dl_file.specs.declared.file.File.{File}
+use Rattle.dl_faults.specs.Wrong.{naming}
 use Rattle.dl_faults.specs.Verdict.{first_fault}
-use Rattle.dl_check.specs.Early.{reading_fault}
+use Rattle.dl_check.specs.Early.{form_fault, reading_fault}
+use Rattle.dl_check.specs.Reading.{IsRead}
 use Rattle.dl_check.specs.Answers.{IsRefused}
+use Rattle.dl_notation.specs.declared.role.ListRole.TheVariants as list
+use Rattle.dl_notation.specs.Environment.{nothing}
+use Rattle.dl_notation.specs.Judge.{OfNames, list_fault}
+use Rattle.dl_one_file.proofs.OneFile.{one-file}
+use Rattle.dl_one_file.proofs.PlainFormulas.{no-faults}
 use Rattle.dl_top.specs.declared.request.Command.{Command}
 use Rattle.dl_top.specs.declared.status.Status.{Status}
 use Rattle.dl_top.specs.declared.status.Status.TheVariants.{Done, Refused, Usage, ReadFault, WriteFault, NoMemory, Unended, TooLong}
-use Rattle.dl_top.specs.Texts.{IsFaultless, HasFault, TextIsRefused}
+use Rattle.dl_top.specs.Texts.{IsFaultless, HasFault, HasTreeFault, HasFileFault, TextIsRefused}
 use Rattle.dl_top.specs.Endings.{Answers, Writes, IsTextOf, IsOfWholeText, IsAfterText, IsQuiet, HasWriteFaultCause}
 
 pub not-usage : (status : Status) → IsAfterText status → status ≡ Usage → ⊥
@@ -47,36 +58,63 @@ not-read-fault ReadFault h e = h
 not-read-fault Unended h e = h
 not-read-fault TooLong h e = h
 
--- ---- accepted texts have no fault, and refused ones have one
+-- ---- a text has a fault or has none
 
-pub accepted-faultless : (command : Option Command) (text output : List ℕ) → IsTextOf command text output → HasFault text → ⊥
-accepted-faultless None text output a h = a
-accepted-faultless (Some command) text output a h =
+-- a tree without a fault of form, names and sorts has none of names and sorts
+names-faultless : (tree : Tree) → reading_fault tree ≡ None → list_fault tree (OfNames nothing) list.File ≡ None
+names-faultless tree h = (no-faults (form_fault tree) (list_fault tree (OfNames nothing) list.File) h).1
+
+-- a formed file of a tree without a fault is the one that was read
+same-file : (tree : Tree) (a b : File) → IsRead tree a → IsRead tree b → a ≡ b
+same-file tree a b x y = one-file tree a b (names-faultless tree x.faultless) x.means y.means x.formed y.formed x.alone y.alone
+
+-- no tree has both a file without a fault and a fault
+tree-excluded : (tree : Tree) (file : File) → IsRead tree file → first_fault file ≡ None → (is_some (reading_fault tree) ≡ true) ⊎ HasFileFault tree → ⊥
+tree-excluded tree file read none (inl e) = (let faultless : is_some (reading_fault tree) ≡ false = ap is_some read.faultless in cc)
+tree-excluded tree file read none (inr w) =
+    let same = same-file tree file w.file read w.read in
+    let faultless : is_some (first_fault w.file) ≡ false = ap is_some (subst (λ f. first_fault f ≡ None) same none) in
+    let faulty = w.faulty in cc
+
+pub faults-excluded : (text : List ℕ) → IsFaultless text → HasFault text → ⊥
+faults-excluded text f (inl e) = (let none : is_some (fault_of text) ≡ false = ap is_some (spelled_faultless text f.tree f.spelled) in cc)
+faults-excluded text f (inr w) =
+    let same = spells_once text w.tree f.tree w.spelled f.spelled in
+    tree-excluded f.tree f.file f.read f.provable (subst (λ tree. (is_some (reading_fault tree) ≡ true) ⊎ HasFileFault tree) same w.faulty)
+
+-- what is accepted has no fault
+pub accepted-faultless : (command : Option Command) (text output : List ℕ) → IsTextOf command text output → IsFaultless text
+accepted-faultless None text output a = absurd a
+accepted-faultless (Some command) text output a =
     let accepted = a.2.accepted in
-    elim (h a.0 a.2.spelled) [
-      | inl e ↦ (let none : is_some (reading_fault a.0) ≡ false = ap is_some accepted.read.faultless in cc)
-      | inr every ↦ (let none : is_some (first_fault accepted.file) ≡ false = ap is_some accepted.faultless in cc (every accepted.file accepted.read))
-    ]
+    record { tree = a.0; file = accepted.file; spelled = a.2.spelled; read = accepted.read; provable = accepted.faultless }
 
-pub tree-has-fault : (text : List ℕ) (tree : Tree) (rule : ℕ) (place : Place) (what : Option Tree) → Spells text tree → IsRefused tree rule place what → IsFaultless text → ⊥
-tree-has-fault text tree rule place what spelled (inl h) f = (let none = f.readable tree spelled in cc h.0)
-tree-has-fault text tree rule place what spelled (inr w) f = (let none = f.provable tree w.file spelled w.read in cc w.first)
+some-is : {X : Type 0} (o : Option X) (x : X) → o ≡ Some x → is_some o ≡ true
+some-is o x e = ap is_some e
 
-pub refused-has-fault : (text : List ℕ) (rule : ℕ) (place : Place) (what : Option Tree) → TextIsRefused text rule place what → IsFaultless text → ⊥
-refused-has-fault text rule place what (inl h) f = (let none = f.spelled in cc h.0)
-refused-has-fault text rule place what (inr r) f = tree-has-fault text r.tree rule place what r.spelled r.refused f
+tree-faulty : (text : List ℕ) (tree : Tree) (rule : ℕ) (place : Place) (what : Option Tree) → Spells text tree → IsRefused tree rule place what → HasTreeFault text
+tree-faulty text tree rule place what spelled (inl h) = record { tree = tree; spelled = spelled; faulty = inl (some-is (reading_fault tree) (rule, place) h.0) }
+tree-faulty text tree rule place what spelled (inr w) =
+    record { tree = tree; spelled = spelled; faulty = inr (record { file = w.file; read = w.read; faulty = some-is (first_fault w.file) (naming rule place w.named) w.first }) }
 
--- a text that was read whole and has a fault is refused
+-- what is refused has a fault
+pub refused-faulty : (text : List ℕ) (rule : ℕ) (place : Place) (what : Option Tree) → TextIsRefused text rule place what → HasFault text
+refused-faulty text rule place what (inl h) = inl (some-is (fault_of text) (rule, place) h.0)
+refused-faulty text rule place what (inr r) = inr (tree-faulty text r.tree rule place what r.spelled r.refused)
+
+-- a text that was read whole is refused exactly where it has a fault
 pub fault-refused : (command : Option Command) (text : List ℕ) (before now : ℕ) (old new : Option (List ℕ)) (status : Status) → Writes command text before now old new status →
-    HasFault text → IsOfWholeText status → status ≡ Refused
-fault-refused command text before now old new Done w h whole = absurd (accepted-faultless command text w.0 w.1 h)
-fault-refused command text before now old new WriteFault w h whole = absurd (accepted-faultless command text w.0 w.1 h)
-fault-refused command text before now old new Refused w h whole = refl
-fault-refused command text before now old new Unended w h whole = absurd w
-fault-refused command text before now old new Usage w h whole = absurd whole
-fault-refused command text before now old new ReadFault w h whole = absurd whole
-fault-refused command text before now old new NoMemory w h whole = absurd whole
-fault-refused command text before now old new TooLong w h whole = absurd whole
+    IsOfWholeText status → (status ≡ Refused) ↔ HasFault text
+fault-refused command text before now old new Done w whole =
+    ((λ (e : Done ≡ Refused). cc), (λ h. absurd (faults-excluded text (accepted-faultless command text w.0 w.1) h)))
+fault-refused command text before now old new WriteFault w whole =
+    ((λ (e : WriteFault ≡ Refused). cc), (λ h. absurd (faults-excluded text (accepted-faultless command text w.0 w.1) h)))
+fault-refused command text before now old new Refused w whole = ((λ _. refused-faulty text w.1.0 w.1.1 w.1.2 w.1.3), (λ _. refl))
+fault-refused command text before now old new Unended w whole = absurd w
+fault-refused command text before now old new Usage w whole = absurd whole
+fault-refused command text before now old new ReadFault w whole = absurd whole
+fault-refused command text before now old new NoMemory w whole = absurd whole
+fault-refused command text before now old new TooLong w whole = absurd whole
 
 -- a text that was read and has no fault is accepted, where the sink didn't fail and there was memory
 pub faultless-accepted : (command : Option Command) (text : List ℕ) (before now : ℕ) (old new : Option (List ℕ)) (status : Status) → Writes command text before now old new status →
@@ -84,7 +122,7 @@ pub faultless-accepted : (command : Option Command) (text : List ℕ) (before no
 faultless-accepted command text before now old new Done w after cause f quiet = inl refl
 faultless-accepted command text before now old new NoMemory w after cause f quiet = inr refl
 faultless-accepted command text before now old new WriteFault w after cause f quiet = absurd (quiet (cause.failed refl))
-faultless-accepted command text before now old new Refused w after cause f quiet = absurd (refused-has-fault text w.1.0 w.1.1 w.1.2 w.1.3 f)
+faultless-accepted command text before now old new Refused w after cause f quiet = absurd (faults-excluded text f (refused-faulty text w.1.0 w.1.1 w.1.2 w.1.3))
 faultless-accepted command text before now old new Usage w after cause f quiet = absurd after
 faultless-accepted command text before now old new ReadFault w after cause f quiet = absurd after
 faultless-accepted command text before now old new Unended w after cause f quiet = absurd after
@@ -126,7 +164,7 @@ answers-read-fault command limit left left_behind reads_before reads_now old new
   whole = λ w. absurd w;
   too_long = ((λ (e : ReadFault ≡ TooLong). cc), (λ (long : limit < length text). absurd (omega (arith, short, long))));
   written = written;
-  refused = λ _ w. absurd w;
+  refused = λ w. absurd w;
   complete = λ _ _ _ quiet _. absurd (quiet rose);
 }
 
@@ -140,7 +178,7 @@ answers-no-memory command limit left left_behind reads_before reads_now old new 
   whole = λ w. absurd w;
   too_long = ((λ (e : NoMemory ≡ TooLong). cc), (λ (long : limit < length text). absurd (omega (arith, short, long))));
   written = written;
-  refused = λ _ w. absurd w;
+  refused = λ w. absurd w;
   complete = λ _ _ _ _ _. inr refl;
 }
 
@@ -154,7 +192,7 @@ answers-too-long command limit left left_behind reads_before reads_now old new b
   whole = λ w. absurd w;
   too_long = ((λ _. long), (λ _. refl));
   written = written;
-  refused = λ _ w. absurd w;
+  refused = λ w. absurd w;
   complete = λ _ _ (short : length text ≤ limit) _ _. absurd (omega (arith, short, long));
 }
 
@@ -167,6 +205,6 @@ answers-usage limit left reads old new before now written = record {
   whole = λ w. absurd w;
   too_long = ((λ (e : Usage ≡ TooLong). cc), (λ (long : limit < 0). absurd (omega (arith, long))));
   written = written;
-  refused = λ _ w. absurd w;
+  refused = λ w. absurd w;
   complete = λ _ (known : false ≡ true) _ _ _. cc;
 }

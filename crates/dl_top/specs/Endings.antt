@@ -75,15 +75,15 @@ abbrev pub IsQuiet : ℕ → ℕ → Type 0
 IsQuiet before now = Rose before now → ⊥
 
 -- The source gave some bytes in this call. They are the whole text where one is answered, and too many exactly where that is answered;
--- and what was written is what belongs to the command, to this text and to the status. A text that was read whole and has a fault is
--- refused. A text without a fault is accepted, unless it is too long, a count rose, or memory is wanting.
+-- and what was written is what belongs to the command, to this text and to the status. A text that was read whole is refused exactly
+-- where it has a fault. A text without a fault is accepted, unless it is too long, a count rose, or memory is wanting.
 pub record Answers (command : Option Command) (limit : ℕ) (left left_behind : Option (List ℕ)) (reads_before reads_now : ℕ) (old new : Option (List ℕ)) (before now : ℕ) (status : Status) : Type 0 where
   pub text : List ℕ
   pub consumed : Consumes left left_behind text
   pub whole : IsOfWholeText status → (length text ≤ limit) × IsAtEnd left_behind
   pub too_long : (status ≡ TooLong) ↔ (limit < length text)
   pub written : Writes command text before now old new status
-  pub refused : HasFault text → IsOfWholeText status → status ≡ Refused
+  pub refused : IsOfWholeText status → (status ≡ Refused) ↔ HasFault text
   pub complete : IsFaultless text → is_some command ≡ true → length text ≤ limit → IsQuiet reads_before reads_now → IsQuiet before now → (status ≡ Done) ⊎ (status ≡ NoMemory)
 
 -- ---- what private calls answer

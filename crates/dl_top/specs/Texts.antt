@@ -28,17 +28,27 @@ pub record TreeIsRefused (text : List ℕ) (rule : ℕ) (place : Place) (what : 
 abbrev pub TextIsRefused : List ℕ → ℕ → Place → Option Tree → Type 0
 TextIsRefused text rule place what = ((fault_of text ≡ Some (rule, place)) × (what ≡ None)) ⊎ TreeIsRefused text rule place what
 
--- The text has no fault: none of its bytes and tokens, none of form, names and sorts in the tree that it spells, and none of worlds
--- and obligations in a formed file that this tree means.
+-- The text has no fault: it spells a tree that has none of form, names and sorts, and this tree means a formed file that has none of
+-- worlds and obligations.
 pub record IsFaultless (text : List ℕ) : Type 0 where
-  pub spelled : fault_of text ≡ None
-  pub readable : (tree : Tree) → Spells text tree → reading_fault tree ≡ None
-  pub provable : (tree : Tree) (file : File) → Spells text tree → IsRead tree file → first_fault file ≡ None
+  pub tree : Tree
+  pub file : File
+  pub spelled : Spells text tree
+  pub read : IsRead tree file
+  pub provable : first_fault file ≡ None
 
--- The tree has a fault of form, names or sorts, or each formed file that it means has one of worlds or obligations.
-abbrev pub TreeHasFault : Tree → Type 0
-TreeHasFault tree = (is_some (reading_fault tree) ≡ true) ⊎ ((file : File) → IsRead tree file → is_some (first_fault file) ≡ true)
+-- The tree means a formed file that has a fault of worlds or obligations.
+pub record HasFileFault (tree : Tree) : Type 0 where
+  pub file : File
+  pub read : IsRead tree file
+  pub faulty : is_some (first_fault file) ≡ true
 
--- The text has a fault: it spells no tree, or the tree that it spells has one.
+-- The text spells a tree that has a fault of form, names or sorts, or one of its file.
+pub record HasTreeFault (text : List ℕ) : Type 0 where
+  pub tree : Tree
+  pub spelled : Spells text tree
+  pub faulty : (is_some (reading_fault tree) ≡ true) ⊎ HasFileFault tree
+
+-- The text has a fault: one of its bytes or tokens, or one of the tree that it spells.
 abbrev pub HasFault : List ℕ → Type 0
-HasFault text = (tree : Tree) → Spells text tree → TreeHasFault tree
+HasFault text = (is_some (fault_of text) ≡ true) ⊎ HasTreeFault text

@@ -36,8 +36,8 @@ pub fn plain<S: Source, K: Sink>(
     ensures unread { result ≡ Status.Usage → source.new ≡ source.old }
     // The text is what the source gave. It was read to its end where it is answered, and 7 comes exactly where it is too long. What was
     // written is what belongs to the command and the status: the acceptance of the text, which then means a file that keeps its
-    // coherences and invariants in every run, or the text's first fault. A text with a fault isn't accepted, and one without a fault is
-    // accepted where no count rose and there is memory.
+    // coherences and invariants in every run, or the text's first fault. A text that was read whole is refused exactly where it has a
+    // fault, and one without a fault is accepted where no count rose and there is memory.
     ensures answer { Answers (command_of words.now) 1048576 (S.left source.old) (S.left source.new) (S.faults source.old) (S.faults source.new) (K.written sink.old) (K.written sink.new) (K.faults sink.old) (K.faults sink.new) result }
     // 3 comes only where the source's count rose, and where it became greater the status is 3.
     ensures read_fault { HasExactCause (S.faults source.old) (S.faults source.new) (result ≡ Status.ReadFault) }
