@@ -19,6 +19,3 @@ mod terms;
 mod worlds;
 
 pub use decide::is_formed;
-
-#[cfg(test)]
-mod tests;

@@ -30,6 +30,3 @@ pub use scope::{Kind, Marks, Scope, SortDecl};
 pub use show::{show_formula, show_term};
 pub use table::Names;
 pub use taken::is_taken_for_others;
-
-#[cfg(test)]
-mod tests;

@@ -1,3 +1,16 @@
 pub mod Histories
 pub mod Passing
 pub mod Faults
+pub mod Telling
+pub mod Sends
+pub mod StepLemmas
+pub mod Hooks
+pub mod Ticking
+pub mod Places
+pub mod EventLemmas
+pub mod Starting
+pub mod Replays
+pub mod ReplyLemmas
+pub mod SameLemmas
+pub mod AdvanceLemmas
+pub mod TurnLemmas

@@ -1,2 +1,9 @@
+pub mod Runners
+pub mod Meant
 pub mod Replayed
 pub mod Passed
+pub mod Taken
+pub mod Started
+pub mod Same
+pub mod Sends
+pub mod Given

@@ -19,6 +19,3 @@ pub use laws::{
 pub use number::{number_list, number_part};
 pub use role::{FormulaRole, ListRole, NameRole, NumberRole, Role, TermRole};
 pub use shape::{begins_with, has_room, headed_form, headless_form, role_at};
-
-#[cfg(test)]
-mod tests;

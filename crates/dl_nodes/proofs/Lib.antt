@@ -1,0 +1,10 @@
+pub mod TickLemmas
+pub mod GivenLemmas
+pub mod RoundLemmas
+pub mod EndLemmas
+pub mod TurnLemmas
+pub mod FormedLemmas
+pub mod BeginLemmas
+pub mod TraceLemmas
+pub mod Decided
+pub mod WorldLemmas

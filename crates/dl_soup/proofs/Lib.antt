@@ -1,0 +1,9 @@
+pub mod Filtered
+pub mod LiveLemmas
+pub mod MatchLemmas
+pub mod PickLemmas
+pub mod RowLemmas
+pub mod OrderLemmas
+pub mod HistoryLemmas
+pub mod ReplyLemmas
+pub mod ActLemmas

@@ -1,0 +1,9 @@
+pub mod Seen
+pub mod Replies
+pub mod Live
+pub mod Given
+pub mod Kept
+pub mod IdRows
+pub mod EntryRows
+pub mod PoolKept
+pub mod SoupKept

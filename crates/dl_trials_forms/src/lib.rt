@@ -1,0 +1,9 @@
+//! Tests of the readers of formulas and of the notation, by public items alone.
+//!
+//! A crate with tests is proved twice, with them and without. So they stand here, and the crates below are proved once.
+#![tactic(auto)]
+
+#[cfg(test)]
+mod forms;
+#[cfg(test)]
+mod notation;

@@ -1,0 +1,11 @@
+//! Tests of the soup, by public items alone.
+//!
+//! A crate with tests is proved twice, with them and without. So they stand here, and the crates below are proved once.
+#![tactic(auto)]
+
+#[cfg(test)]
+mod calls;
+#[cfg(test)]
+mod mail;
+#[cfg(test)]
+mod orders;
