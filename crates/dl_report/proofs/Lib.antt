@@ -1,0 +1,10 @@
+pub mod Pieces
+pub mod Numbers
+pub mod NameWords
+pub mod Chain
+pub mod Calls
+pub mod Lines
+pub mod Ready
+pub mod Whole
+pub mod Loops
+pub mod Written

@@ -1,0 +1,31 @@
+use Rattle.std.proofs.Common.{◌≡◌, suc, ◌+◌, [], ◌∷◌, ◌++◌, ap, sym, ◌∙◌, append-nil, arith, refl}
+use Rattle.std.specs.String.{string_bytes}
+use Rattle.std.specs.List.{concat}
+use Rattle.dl_report.specs.Layout.{entry_lines}
+use Rattle.dl_report.proofs.Pieces.{nothing}
+use Rattle.dl_report.proofs.Written.{entry_on}
+use Rattle.dl_report.proofs.write.all_entries.Goals as goal
+
+pub loop-first-init : goal.loop-first-init
+loop-first-init c = record { lines = refl; many = omega arith }
+
+pub overflow_add-number : goal.overflow_add-number
+overflow_add-number c = omega (arith, c.in-Some.ensures.cases.1, c.loop-first.invariant.many)
+
+pub loop-first-preserved : goal.loop-first-preserved
+loop-first-preserved c =
+    let names = c.args.names.now in
+    let decls = c.args.decls.now in
+    let number = c.loop-first.number + 1 in
+    let next : number + 1 ≡ suc number = omega arith in
+    record {
+      lines = entry_on names decls (string_bytes c.args.out.now ++ concat (entry_lines names decls 1 c.args.entries.now)) (string_bytes c.loop-first.out) (string_bytes c.entry_line.new.out)
+          number (number + 1) c.in-Some.first.now c.loop-first.rest.now c.in-Some.more.now c.in-Some.ensures.cases.0 next c.in_ok-entry_line.ensures c.loop-first.invariant.lines;
+      many = omega (arith, c.in-Some.ensures.cases.1, c.loop-first.invariant.many);
+    }
+
+pub returns : goal.returns
+returns c =
+    let none : c.loop-first.rest.now ≡ [] = nothing c.loop-first.rest.now c.in_default.ensures.cases in
+    sym (append-nil (string_bytes c.loop-first.out))
+    ∙ (ap (λ es. string_bytes c.loop-first.out ++ concat (entry_lines c.args.names.now c.args.decls.now (c.loop-first.number + 1) es)) (sym none) ∙ c.loop-first.invariant.lines)

@@ -1,0 +1,9 @@
+pub mod Spaced
+pub mod Small
+pub mod Split
+pub mod Layout
+pub mod Fitting
+pub mod Wrong
+pub mod Reading
+pub mod Taken
+pub mod Ready
