@@ -72,7 +72,7 @@ pub(crate) struct Row {
 }
 
 /// Rows of the counter.
-pub(crate) const COUNTER_ROWS: [Row; 34] = [
+pub(crate) const COUNTER_ROWS: [Row; 39] = [
     Row {
         changes: &[],
         status: Status::Done,
@@ -170,12 +170,63 @@ pub(crate) const COUNTER_ROWS: [Row; 34] = [
     Row {
         changes: &[(10, "  (proof (after p 1) (names)")],
         status: Status::Refused,
-        line: "refused 9 NotYet 10:3\n",
+        line: "refused 11 Unknown 10:17\n",
     },
     Row {
         changes: &[(9, "  (deploy w (a p 1))")],
         status: Status::Refused,
-        line: "refused 9 NotYet 9:3\n",
+        line: "refused 11 Unknown 9:16\n",
+    },
+    // A procedure that does nothing.
+    Row {
+        changes: &[(
+            9,
+            "  (proc p w () (locals) (pre true) (post true) (body) (return 0)) (deploy w (a p))",
+        )],
+        status: Status::Done,
+        line: "accepted nodes 1 labels 1 hooks 0 invariants 1 programs 1 obligations 4\n",
+    },
+    // What it returns isn't what it promises.
+    Row {
+        changes: &[(
+            9,
+            "  (proc p w () (locals) (pre true) (post (= result 1)) (body) (return 0)) (deploy w (a p))",
+        )],
+        status: Status::Refused,
+        line: "refused 30 NoScript 9:3 (start p)\n",
+    },
+    // Its world doesn't have the label.
+    Row {
+        changes: &[
+            (
+                7,
+                "  (world w (labels c) (hooks)) (world v (labels) (hooks))",
+            ),
+            (
+                9,
+                "  (proc p v () (locals) (pre true) (post true) (body (send true c inc a)) (return 0)) (deploy w (a p))",
+            ),
+        ],
+        status: Status::Refused,
+        line: "refused 20 NoLabel 9:65\n",
+    },
+    // A send whose update may leave its sort, in a procedure that a loop calls.
+    Row {
+        changes: &[(
+            9,
+            "  (proc give w () (locals) (pre true) (post true) (body (send true c inc a)) (return 0)) (proc p w () (locals y) (pre true) (post true) (body (while (= y 0) true (call true true y give))) (return y)) (deploy w (a p))",
+        )],
+        status: Status::Refused,
+        line: "refused 30 NoScript 9:57 (guard give 1)\n",
+    },
+    // A frame that speaks of the label of the called procedure.
+    Row {
+        changes: &[(
+            9,
+            "  (proc give w () (locals) (pre true) (post true) (body (send true c inc a)) (return 0)) (proc p w () (locals y) (pre true) (post true) (body (call true (<= 0 (len c)) y give)) (return y)) (deploy w (a p))",
+        )],
+        status: Status::Refused,
+        line: "refused 23 FrameTouches 9:160 c\n",
     },
     Row {
         changes: &[(2, "  (nodes a a)")],

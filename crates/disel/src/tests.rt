@@ -1,6 +1,11 @@
 //! What the program answers to texts, words, sources and sinks.
 
+use crate::programs::{
+    ASKING, ASKING_ROWS, CALLING, CALLING_ROWS, COMMIT, COMMIT_ROWS, LETTER, LETTER_ROWS, LETTERS,
+    LETTERS_ROWS,
+};
 use crate::rows::{COUNTER, COUNTER_ROWS, MAIL, MAIL_ROWS, QUERY, QUERY_ROWS, Row};
+use crate::runs::RUNS;
 use dl_io::{MemSink, MemSource};
 use dl_top::{Status, Word, plain};
 use std::alloc::{AllocError, Global};
@@ -121,6 +126,56 @@ fn queries(rt: HostRuntime) -> Result<(), Fail> {
     Ok(())
 }
 
+#[test]
+fn letters(rt: HostRuntime) -> Result<(), Fail> {
+    for row in &LETTER_ROWS {
+        let (status, line) = answered_row(rt.alloc(), LETTER, row)?;
+        assert_eq!(rt; line.as_slice(), row.line.as_bytes());
+        assert_eq!(rt; status, row.status);
+    }
+    Ok(())
+}
+
+#[test]
+fn letters_of_two(rt: HostRuntime) -> Result<(), Fail> {
+    for row in &LETTERS_ROWS {
+        let (status, line) = answered_row(rt.alloc(), LETTERS, row)?;
+        assert_eq!(rt; line.as_slice(), row.line.as_bytes());
+        assert_eq!(rt; status, row.status);
+    }
+    Ok(())
+}
+
+#[test]
+fn asks(rt: HostRuntime) -> Result<(), Fail> {
+    for row in &ASKING_ROWS {
+        let (status, line) = answered_row(rt.alloc(), ASKING, row)?;
+        assert_eq!(rt; line.as_slice(), row.line.as_bytes());
+        assert_eq!(rt; status, row.status);
+    }
+    Ok(())
+}
+
+#[test]
+fn calls(rt: HostRuntime) -> Result<(), Fail> {
+    for row in &CALLING_ROWS {
+        let (status, line) = answered_row(rt.alloc(), CALLING, row)?;
+        assert_eq!(rt; line.as_slice(), row.line.as_bytes());
+        assert_eq!(rt; status, row.status);
+    }
+    Ok(())
+}
+
+#[test]
+fn commits(rt: HostRuntime) -> Result<(), Fail> {
+    for row in &COMMIT_ROWS {
+        let (status, line) = answered_row(rt.alloc(), COMMIT, row)?;
+        assert_eq!(rt; line.as_slice(), row.line.as_bytes());
+        assert_eq!(rt; status, row.status);
+    }
+    Ok(())
+}
+
 /// The counter in its one layout.
 const LAID_OUT: &str = "(disel 1
   (nodes a)
@@ -137,6 +192,34 @@ const LAID_OUT: &str = "(disel 1
 fn layouts(rt: HostRuntime) -> Result<(), Fail> {
     let (status, written) = answered(rt.alloc(), &SOUND, &["show"], COUNTER.as_bytes())?;
     assert_eq!(rt; written.as_slice(), LAID_OUT.as_bytes());
+    assert_eq!(rt; status, Status::Done);
+    Ok(())
+}
+
+/// The text with a client and a server in its one layout.
+const LETTER_LAID_OUT: &str = "(disel 1
+  (nodes a b)
+  (protocol mail (field got bool 0) (tag req ((v int)) (send true) (receive true (set got 1))))
+  (label r mail)
+  (world w (labels r) (hooks))
+  (invariant seen w (each m r req (implies (= (live m) 0) (= (get r got (to m)) 1))))
+  (proc client w ((v int)) (locals) (pre true) (post true) (body (send true r req b v)) (return 0))
+  (proc server w () (locals f u) (pre true) (post (= (get r got me) 1)) (body (await true r req f (u))) (return u))
+  (deploy w (a client 7) (b server))
+  (proof (step seen r req send) (names s d x1) (split (by seen) (intro z (linear (use z) (use z)))))
+  (proof (step seen r req receive) (names n k) (open j (intro z (decide (= (to j) n) q (reduce q goal (linear (goal) (goal))) (reduce q goal (decide (= (id j) (id k)) e (parts mine mt ml (have (= (to j) n) y (rewrite e goal (by mt)) (apply q bad (by y) (close)))) (reduce e z (inst seen j s1 (apply s1 s2 (by z) (by s2))))))))))
+)
+";
+
+#[test]
+fn layouts_of_programs(rt: HostRuntime) -> Result<(), Fail> {
+    let devices = Devices {
+        first_piece: 0,
+        failing_read: 1000,
+        room: 2000,
+    };
+    let (status, written) = answered(rt.alloc(), &devices, &["show"], LETTER.as_bytes())?;
+    assert_eq!(rt; written.as_slice(), LETTER_LAID_OUT.as_bytes());
     assert_eq!(rt; status, Status::Done);
     Ok(())
 }
@@ -282,13 +365,39 @@ fn failing_sinks(rt: HostRuntime) -> Result<(), Fail> {
     Ok(())
 }
 
-/// Lists of words that name no command.
-const OTHER_WORDS: [&[&str]; 5] = [
+#[test]
+fn runs(rt: HostRuntime) -> Result<(), Fail> {
+    for run in &RUNS {
+        let text = changed(rt.alloc(), run.base, run.changes)?;
+        let (status, written) = answered(rt.alloc(), &SOUND, run.words, text.as_bytes())?;
+        assert_eq!(rt; written.as_slice(), run.report.as_bytes());
+        assert_eq!(rt; status, run.status);
+    }
+    Ok(())
+}
+
+/// Lists of words that name no command, or a run on threads.
+const OTHER_WORDS: [&[&str]; 20] = [
     &[],
     &["check", "x"],
     &["Check"],
+    &["show", "--serial"],
+    &["run"],
+    &["run", "serial"],
+    &["run", "--serial", "x"],
     &["run", "--budget", "0"],
+    &["run", "--budget", "0", "--serial"],
+    &["run", "--serial", "--budget", "100001"],
+    &["run", "--serial", "--budget", "01"],
+    &["run", "--serial", "--budget", "+1"],
+    &["run", "--serial", "--budget"],
+    &["run", "--serial", "--serial"],
+    &["run", "--order", "oldest", "--serial", "--order", "oldest"],
     &["run", "--order", "seed:01"],
+    &["run", "--serial", "--order", "seed:01"],
+    &["run", "--serial", "--order", "seed:"],
+    &["run", "--serial", "--order", "seed:18446744073709551616"],
+    &["run", "--serial", "--order", "first"],
 ];
 
 const USAGE: &str =

@@ -1,3 +1,3 @@
 pub mod Answers
-pub mod Early
 pub mod Reading
+pub mod Rules

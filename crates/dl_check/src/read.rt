@@ -2,12 +2,12 @@
 
 ghost use Rattle.std.specs.Prelude.{◌≡◌, None, true, IfOk, IfErr};
 ghost use Rattle.dl_file.specs.declared.answer.Fault.TheVariants.{Memory};
+ghost use Rattle.dl_notation.specs.Judge.{file_fault};
 ghost use Rattle.dl_means.specs.Means.{Means};
-ghost use Rattle.dl_faults.specs.Given.{FileIsFormed, HasNoPrograms};
-ghost use Rattle.dl_check.specs.Early.{reading_fault};
+ghost use Rattle.dl_faults.specs.Given.{FileIsFormed};
 ghost use Rattle.dl_check.specs.Reading.{IsRead, IsRight, IsReadingFault};
 
-use crate::early::judge;
+use crate::judge::judge;
 use dl_file::{Fault, File};
 use dl_formed_file::file_is_formed;
 use dl_forms::Names;
@@ -16,7 +16,7 @@ use dl_read_script::build_file;
 use dl_tree::Tree;
 use std::alloc::{AllocError, Global};
 
-/// The file that the tree means, or its first fault of form (9, 10), of names and sorts (11 to 16, 33). Want of memory may come in
+/// The file that the tree means, or its first fault of form (10), of names and sorts (11 to 16, 33). Want of memory may come in
 /// the place of either.
 ///
 /// What the builder gives is looked at before it is answered: that it is what its tree means, and that it is formed. Where it
@@ -36,7 +36,7 @@ pub fn read_file(alloc: Global, tree: Tree) -> Result<File, Fault>
 
 /// The file of a tree without fault.
 fn built_file(alloc: Global, tree: Tree) -> Result<File, Fault>
-    requires { reading_fault tree ≡ None }
+    requires { file_fault tree ≡ None }
     ensures ok { IfOk result (IsRead tree) }
     ensures err { IfErr result (λ fault. fault ≡ Memory) }
 {
@@ -74,7 +74,7 @@ fn is_known_right(alloc: Global, names: &Names, file: &File) -> bool
     }
 }
 
-/// Whether the file is what its tree means, formed and without programs.
+/// Whether the file is what its tree means, and formed.
 fn is_right(alloc: Global, names: &Names, file: &File) -> Result<bool, AllocError>
     ensures { IfOk result (λ right. right ≡ true → IsRight file.now) }
 {

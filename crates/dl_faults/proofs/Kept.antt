@@ -1,69 +1,24 @@
--- A file without programs keeps to its worlds just where nothing is wrong with them.
-use Rattle.std.proofs.Common.{◌≡◌, ◌↔◌, ℕ, ◌+◌, ◌<◌, ◌==◌, Bool, true, false, ◌&&◌, cond, List, [], ◌∷◌, Option, Some, None, Result, Ok, Err, length, refl, ap, subst, slice_get, unwrap_or, IsOk, arith}
-use Rattle.std.specs.List.{AllByRecursion as Each, list_all, flat_map, enumerate_from}
+-- A file keeps to its worlds just where nothing is wrong with them.
+use Rattle.std.proofs.Common.{◌≡◌, ◌↔◌, ℕ, ◌+◌, true, ◌&&◌, List, [], ◌∷◌, Some, None, refl, slice_get}
+use Rattle.std.specs.List.{list_all, flat_map, enumerate_from}
 use Rattle.dl_term.specs.declared.syntax.Lab.{Lab}
-use Rattle.dl_tree.specs.declared.tree.Place.{Place}
 use Rattle.dl_model.specs.declared.file.World.{World}
 use Rattle.dl_model.specs.declared.file.Invariant.{Invariant}
-use Rattle.dl_model.specs.declared.file.Program.{Program}
-use Rattle.dl_model.specs.declared.file.Deploy.{Deploy}
-use Rattle.dl_model.specs.declared.file.Decls.{Decls}
 use Rattle.dl_model.specs.Sorts.{has}
-use Rattle.dl_model.specs.Lookup.{world_at, hook_at, composed, program_in, program_of}
+use Rattle.dl_model.specs.Lookup.{world_at, hook_at, composed, deploy_of}
 use Rattle.dl_model.specs.Spoken.{labels_of}
 use Rattle.dl_model.specs.Worlds.{Injects, IsAbout, KeepsWorlds, is_label_of}
-use Rattle.dl_model.specs.Formed.{DeployIsFormed, IsFormed, ProgramIsFormed}
-use Rattle.dl_model.proofs.Small.{and-left, and-right, and-both, some-same, each-map}
-use Rattle.dl_inv.proofs.Lists.{each-at, each-has, each-found, each-get}
-use Rattle.dl_world.specs.declared.inject.InjectFault.{InjectFault}
-use Rattle.dl_world.specs.declared.inject.InjectFault.TheVariants.{NoLabel, NotCovered}
-use Rattle.dl_world.specs.Injected.{HooksAreDeclared, injection}
-use Rattle.dl_world.proofs.Injecting.{injection-says}
+use Rattle.dl_model.specs.Formed.{IsFormed}
+use Rattle.dl_model.proofs.Small.{and-left, and-right, and-both}
+use Rattle.dl_inv.proofs.Lists.{each-at, each-has, each-found}
 use Rattle.dl_file.specs.declared.file.File.{File}
 use Rattle.dl_faults.specs.declared.wrong.Wrong.{Wrong}
 use Rattle.dl_faults.specs.Places.{invariant_place}
-use Rattle.dl_faults.specs.Worlds.{hook_wrong, world_wrong, label_wrong, injection_wrong, invariant_wrong, world_wrongs, world_fault}
-use Rattle.dl_faults.specs.Given.{HasNoPrograms}
+use Rattle.dl_faults.specs.Programs.{program_wrongs}
+use Rattle.dl_faults.specs.Worlds.{hook_wrong, world_wrong, label_wrong, invariant_wrong, declared_wrongs, world_wrongs, world_fault}
 use Rattle.dl_faults.proofs.Nothing.{front-none, back-none, both-none, numbered-none, none-numbered, each-position, unless-fine, fine-unless}
 use Rattle.dl_faults.proofs.Earliest.{none-earliest, earliest-none}
-
--- ---- programs
-
-program-found : (d : Decls) (programs : List Program) (node : ℕ) (program : Program) → Each (ProgramIsFormed d) programs → program_in programs node ≡ Some program → program.proc < length d.procs
-program-found d [] node program each e = cc
-program-found d (first ∷ programs) node program each e = go (node == first.node) (program-found d programs node program each.1) e
-  where
-    go : (b : Bool) → (program_in programs node ≡ Some program → program.proc < length d.procs) → cond b (Some first) (program_in programs node) ≡ Some program → program.proc < length d.procs
-    go true later e = subst (λ (p : Program). p.proc < length d.procs) (some-same first program e) each.0.proc
-    go false later e = later e
-
-deployed-found : (d : Decls) (deploy : Option Deploy) (node : ℕ) (program : Program) → DeployIsFormed d deploy →
-    program_in (unwrap_or deploy (record { world = 0; programs = [] })).programs node ≡ Some program → program.proc < length d.procs
-deployed-found d (Some deploy) node program formed e = program-found d deploy.programs node program formed.1 e
-deployed-found d None node program formed e = cc
-
-no-program : (d : Decls) → IsFormed d → d.procs ≡ [] → (node : ℕ) (program : Program) → program_of d node ≡ Some program → ⊥
-no-program d formed none node program e =
-    let below = deployed-found d d.deploy node program formed.deploy e in
-    let empty : length d.procs ≡ 0 = ap length none in
-    omega (below, empty, arith)
-
--- ---- injections
-
-pub hooks-declared : (d : Decls) → IsFormed d → (w : ℕ) → HooksAreDeclared d (world_at d w)
-hooks-declared d formed w =
-    each-get (HooksAreDeclared d) d.worlds w (record { sym = 0; labels = []; hooks = [] }) tt (each-map _ (HooksAreDeclared d) d.worlds formed.worlds (λ world f. f.hooks))
-
-module _ (file : File) (place : Place) where
-  ok-injection : (r : Result (Unit {0}) InjectFault) → injection_wrong file place r ≡ [] → IsOk r
-  ok-injection (Ok u) h = refl
-  ok-injection (Err (NoLabel label)) h = cc
-  ok-injection (Err (NotCovered hook)) h = cc
-
-  injection-ok : (r : Result (Unit {0}) InjectFault) → IsOk r → injection_wrong file place r ≡ []
-  injection-ok (Ok u) h = refl
-  injection-ok (Err (NoLabel label)) h = cc
-  injection-ok (Err (NotCovered hook)) h = cc
+use Rattle.dl_faults.proofs.KeptPrograms.{none-injects, injects-none, procs-keep, programs-inject, programs-kept}
 
 -- ---- labels
 
@@ -85,17 +40,7 @@ module _ (file : File) (i : ℕ) (world : World) where
 -- ---- both ways
 
 module _ (file : File) (formed : IsFormed file.decls) where
-  injects : (w : ℕ) (place : Place) → injection_wrong file place (injection file.decls (world_at file.decls w) (composed file.decls)) ≡ [] → Injects file.decls (world_at file.decls w) (composed file.decls)
-  injects w place h =
-      (injection-says file.decls (world_at file.decls w) (composed file.decls) (hooks-declared file.decls formed w) (hooks-declared file.decls formed _)).0
-      (ok-injection file place (injection file.decls (world_at file.decls w) (composed file.decls)) h)
-
-  injected : (w : ℕ) (place : Place) → Injects file.decls (world_at file.decls w) (composed file.decls) → injection_wrong file place (injection file.decls (world_at file.decls w) (composed file.decls)) ≡ []
-  injected w place h =
-      injection-ok file place (injection file.decls (world_at file.decls w) (composed file.decls))
-      ((injection-says file.decls (world_at file.decls w) (composed file.decls) (hooks-declared file.decls formed w) (hooks-declared file.decls formed _)).1 h)
-
-  module _ (none : world_wrongs file ≡ []) where
+  module _ (none : declared_wrongs file ≡ []) where
     abbrev of_worlds : List Wrong
     of_worlds = flat_map (world_wrong file) (enumerate_from 0 file.decls.worlds)
 
@@ -124,28 +69,34 @@ module _ (file : File) (formed : IsFormed file.decls) where
     visible : (i : ℕ) (invariant : Invariant) → slice_get file.decls.invariants i ≡ Some invariant → Injects file.decls (world_at file.decls invariant.world) (composed file.decls)
     visible i invariant e =
         let here = at-invariant i invariant e in
-        injects invariant.world (invariant_place file.tree here.0)
+        none-injects file.decls formed (invariant_place file.tree here.0) invariant.world (deploy_of file.decls).world
         (back-none (flat_map (label_wrong file here.0 (world_at file.decls invariant.world)) (enumerate_from 0 (labels_of invariant.formula))) _ here.1)
 
-    keeps : HasNoPrograms file → KeepsWorlds file.decls
-    keeps programs = record {
-      cores = λ w world e hook m. and-left _ _ (ends-inside w world e hook m);
-      clients = λ w world e hook m. and-right (has world.labels (hook_at file.decls hook).core) _ (ends-inside w world e hook m);
-      invariants = about;
-      visible = visible;
-      procs = λ proc below. let empty : length file.decls.procs ≡ 0 = ap length programs in absurd (omega (below, empty, arith));
-      programs = λ node program e. absurd (no-program file.decls formed programs node program e);
-    }
+  keeps : world_wrongs file ≡ [] → KeepsWorlds file.decls
+  keeps none =
+      let of_declared = front-none (declared_wrongs file) (program_wrongs file) none in
+      let of_programs = back-none (declared_wrongs file) (program_wrongs file) none in
+      record {
+        cores = λ w world e hook m. and-left _ _ (ends-inside of_declared w world e hook m);
+        clients = λ w world e hook m. and-right (has world.labels (hook_at file.decls hook).core) _ (ends-inside of_declared w world e hook m);
+        invariants = about of_declared;
+        visible = visible of_declared;
+        procs = procs-keep file formed of_programs;
+        programs = programs-inject file formed of_programs;
+      }
 
-  kept : KeepsWorlds file.decls → world_wrongs file ≡ []
-  kept keeps = both-none (flat_map (world_wrong file) (enumerate_from 0 file.decls.worlds)) (flat_map (invariant_wrong file) (enumerate_from 0 file.decls.invariants))
+  declared-kept : KeepsWorlds file.decls → declared_wrongs file ≡ []
+  declared-kept all = both-none (flat_map (world_wrong file) (enumerate_from 0 file.decls.worlds)) (flat_map (invariant_wrong file) (enumerate_from 0 file.decls.invariants))
       (none-numbered (world_wrong file) 0 file.decls.worlds (each-position _ file.decls.worlds (λ w world e k.
       none-numbered (hook_wrong file k world) 0 world.hooks (each-has _ world.hooks (λ hook m j.
-      fine-unless _ _ (and-both _ _ (keeps.cores w world e hook m) (keeps.clients w world e hook m)))))))
+      fine-unless _ _ (and-both _ _ (all.cores w world e hook m) (all.clients w world e hook m)))))))
       (none-numbered (invariant_wrong file) 0 file.decls.invariants (each-position _ file.decls.invariants (λ i invariant e k.
       both-none (flat_map (label_wrong file k (world_at file.decls invariant.world)) (enumerate_from 0 (labels_of invariant.formula))) _
-      (about-labels file k (world_at file.decls invariant.world) 0 (labels_of invariant.formula) (keeps.invariants i invariant e))
-      (injected invariant.world (invariant_place file.tree k) (keeps.visible i invariant e)))))
+      (about-labels file k (world_at file.decls invariant.world) 0 (labels_of invariant.formula) (all.invariants i invariant e))
+      (injects-none file.decls formed (invariant_place file.tree k) invariant.world (deploy_of file.decls).world (all.visible i invariant e)))))
 
-pub worlds-kept : (file : File) → IsFormed file.decls → HasNoPrograms file → (world_fault file ≡ None) ↔ KeepsWorlds file.decls
-worlds-kept file formed programs = (λ none. keeps file formed (none-earliest (world_wrongs file) none) programs, λ kept_worlds. earliest-none (world_wrongs file) (kept file formed kept_worlds))
+  kept : KeepsWorlds file.decls → world_wrongs file ≡ []
+  kept all = both-none (declared_wrongs file) (program_wrongs file) (declared-kept all) (programs-kept file formed all.procs all.programs)
+
+pub worlds-kept : (file : File) → IsFormed file.decls → (world_fault file ≡ None) ↔ KeepsWorlds file.decls
+worlds-kept file formed = (λ none. keeps file formed (none-earliest (world_wrongs file) none), λ kept_worlds. earliest-none (world_wrongs file) (kept file formed kept_worlds))

@@ -1,8 +1,11 @@
 pub mod Nothing
 pub mod Earliest
+pub mod KeptPrograms
 pub mod Kept
 pub mod Answered
 pub mod Same
+pub mod TwoKinds
+pub mod Names
 pub mod Proved
 pub mod Accepted
 pub mod Premises
@@ -10,3 +13,5 @@ pub mod Listed
 pub mod Labelled
 pub mod Stood
 pub mod Stages
+pub mod Walking
+pub mod Pointed

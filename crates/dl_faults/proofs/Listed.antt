@@ -4,7 +4,6 @@ use Rattle.dl_tree.specs.declared.tree.Place.{Place}
 use Rattle.dl_tree.specs.declared.tree.Tree.{Tree, List', Row_of-Tree, end_of-Tree, more_of-Tree, items-the_row-Tree, items_hidden-the_row-Tree-0}
 use Rattle.dl_tree.specs.declared.tree.Tree.TheVariants as tree
 use Rattle.std.specs.List.{flat_map}
-use Rattle.dl_tree.specs.TreePlace.{place_of}
 use Rattle.dl_faults.specs.Places.{row_parts, parts_of, named_list, label_lists, label_lists_in}
 
 abbrev row_of : Tree → (n : _) × Row_of-Tree n
@@ -36,17 +35,18 @@ lists-List items p =
     let row = row_of (tree.List items p) in
     ap (λ rest. named_list (tree.List items p) ++ rest) (row-lists row.0 row.1 ∙ ap (flat_map label_lists) (items_hidden-the_row-Tree-0 items))
 
-pub map-append : (xs ys : List Tree) → map place_of (xs ++ ys) ≡ map place_of xs ++ map place_of ys
-map-append [] ys = refl
-map-append (x ∷ xs) ys = ap (λ rest. place_of x ∷ rest) (map-append xs ys)
+module _ (g : Tree → Place) where
+  map-append : (xs ys : List Tree) → map g (xs ++ ys) ≡ map g xs ++ map g ys
+  map-append [] ys = refl
+  map-append (x ∷ xs) ys = ap (λ rest. g x ∷ rest) (map-append xs ys)
 
--- the place of a list itself, and then those of its parts
-pub placed : (old middle new : List Place) (whole : Tree) (items : List Tree) (p : Place) → whole ≡ tree.List items p →
-    middle ≡ old ++ map place_of (named_list whole) → new ≡ middle ++ map place_of (flat_map label_lists items) → new ≡ old ++ map place_of (label_lists whole)
-placed old middle new whole items p is own further =
-    let own_places = map place_of (named_list whole) in
-    let part_places = map place_of (flat_map label_lists items) in
-    let lists : label_lists whole ≡ named_list whole ++ flat_map label_lists items =
-    ap label_lists is ∙ (lists-List items p ∙ ap (λ t. named_list t ++ flat_map label_lists items) (sym is)) in
-    further ∙ (ap (λ m. m ++ part_places) own ∙ (append_assoc old own_places part_places
-    ∙ ap (λ rest. old ++ rest) (sym (ap (map place_of) lists ∙ map-append (named_list whole) (flat_map label_lists items)))))
+  -- the place of a list itself, and then those of its parts
+  pub placed : (old middle new : List Place) (whole : Tree) (items : List Tree) (p : Place) → whole ≡ tree.List items p →
+      middle ≡ old ++ map g (named_list whole) → new ≡ middle ++ map g (flat_map label_lists items) → new ≡ old ++ map g (label_lists whole)
+  placed old middle new whole items p is own further =
+      let own_places = map g (named_list whole) in
+      let part_places = map g (flat_map label_lists items) in
+      let lists : label_lists whole ≡ named_list whole ++ flat_map label_lists items =
+      ap label_lists is ∙ (lists-List items p ∙ ap (λ t. named_list t ++ flat_map label_lists items) (sym is)) in
+      further ∙ (ap (λ m. m ++ part_places) own ∙ (append_assoc old own_places part_places
+      ∙ ap (λ rest. old ++ rest) (sym (ap (map g) lists ∙ map-append (named_list whole) (flat_map label_lists items)))))

@@ -11,7 +11,8 @@ use Rattle.dl_file.specs.declared.file.File.{File}
 use Rattle.dl_faults.specs.declared.wrong.Wrong.{Wrong}
 use Rattle.dl_faults.specs.Places.{invariant_place}
 use Rattle.dl_faults.specs.Wrong.{joined, earliest}
-use Rattle.dl_faults.specs.Worlds.{label_wrong, injection_wrong, invariant_wrong}
+use Rattle.dl_faults.specs.Injections.{injection_wrong}
+use Rattle.dl_faults.specs.Worlds.{label_wrong, invariant_wrong}
 use Rattle.dl_faults.proofs.Earliest.{earliest-parts}
 
 -- two parts of what is wrong
@@ -22,11 +23,11 @@ module _ (file : File) where
   pub invariant-told : (i : ℕ) (invariant : Invariant) (world large : World) (place : Place) (spoken injected found : Option Wrong) →
       world ≡ world_at file.decls invariant.world → large ≡ composed file.decls → place ≡ invariant_place file.tree i →
       spoken ≡ earliest (flat_map (label_wrong file i world) (enumerate_from 0 (labels_of invariant.formula))) →
-      injected ≡ earliest (injection_wrong file place (injection file.decls world large)) →
+      injected ≡ earliest (injection_wrong place (injection file.decls world large)) →
       found ≡ joined spoken injected → found ≡ earliest (invariant_wrong file (i, invariant))
   invariant-told i invariant world large place spoken injected found e f g of_labels of_injection is =
       let here = world_at file.decls invariant.world in
       both-parts (flat_map (label_wrong file i here) (enumerate_from 0 (labels_of invariant.formula)))
-      (injection_wrong file (invariant_place file.tree i) (injection file.decls here (composed file.decls))) spoken injected found
+      (injection_wrong (invariant_place file.tree i) (injection file.decls here (composed file.decls))) spoken injected found
       (of_labels ∙ ap (λ (w : World). earliest (flat_map (label_wrong file i w) (enumerate_from 0 (labels_of invariant.formula)))) e)
-      (of_injection ∙ (λ j. earliest (injection_wrong file (g j) (injection file.decls (e j) (f j))))) is
+      (of_injection ∙ (λ j. earliest (injection_wrong (g j) (injection file.decls (e j) (f j))))) is

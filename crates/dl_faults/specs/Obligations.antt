@@ -1,8 +1,7 @@
--- What is wrong with the obligations of a file without programs, and with their proofs.
+-- What is wrong with the obligations of a file, and with their proofs.
 use Rattle.std.specs.Prelude.{ℕ, Bool, false, ◌==◌, ◌&&◌, if◌then◌else◌, List, [], ◌∷◌, ◌++◌, length, Option, Some, None}
 use Rattle.std.specs.List.{find, list_any, flat_map, range_with_len}
 use Rattle.dl_tree.specs.declared.tree.Place.{Place}
-use Rattle.dl_tree.specs.TreePlace.{place_of}
 use Rattle.dl_model.specs.declared.sequent.Sequent.{Sequent}
 use Rattle.dl_sequent.specs.declared.duty.Duty.{Duty}
 use Rattle.dl_sequent.specs.declared.duty.Duty.TheVariants as duty
@@ -11,16 +10,15 @@ use Rattle.dl_sequent.specs.Sizes.{is_too_large}
 use Rattle.dl_kernel.specs.declared.fault.KernelFault.{KernelFault}
 use Rattle.dl_kernel.specs.declared.fault.KernelFault.TheVariants.{RuleFails, Limit, Memory}
 use Rattle.dl_kernel.specs.Outcome.{fault}
-use Rattle.dl_inv.specs.Duties.{duties_of}
 use Rattle.dl_inv.specs.Facts.{agree}
-use Rattle.dl_inv.specs.Obligations.{sequent_of}
-use Rattle.dl_inv.specs.Taken.{names_taken}
 use Rattle.dl_file.specs.declared.file.Proof.{Proof}
 use Rattle.dl_file.specs.declared.file.File.{File}
 use Rattle.dl_faults.specs.declared.wrong.Named.TheVariants.{Obligation}
 use Rattle.dl_faults.specs.declared.wrong.Wrong.{Wrong}
 use Rattle.dl_faults.specs.Wrong.{at, naming, unless, earliest}
 use Rattle.dl_faults.specs.Places.{coherence_place, invariant_place}
+use Rattle.dl_faults.specs.ProgramPlaces.{proc_place, point_place, deployed_place}
+use Rattle.dl_faults.specs.Whole.{duties_of, sequent_of, names_taken}
 use Rattle.dl_faults.specs.Shown.{texts_of}
 
 -- ---- the proof of an obligation
@@ -61,13 +59,26 @@ spare_names file duty = range_with_len (length (texts_of file)) (names_taken fil
 
 -- ---- obligations
 
--- where an obligation stands: at the coherence or the invariant
+-- Where an obligation stands: at the coherence, the invariant, the procedure, the command or postcondition, or the program in the
+-- deployment.
 abbrev pub duty_place : File → Duty → Place
 duty_place file (duty.InitProtocol p) = coherence_place file.tree p
 duty_place file (duty.StepProtocol p tag receive) = coherence_place file.tree p
 duty_place file (duty.InitInvariant i) = invariant_place file.tree i
 duty_place file (duty.StepInvariant i label tag receive) = invariant_place file.tree i
-duty_place file _ = place_of file.tree
+duty_place file (duty.Start p) = proc_place file.tree p
+duty_place file (duty.Guard p k) = point_place file.tree p k
+duty_place file (duty.AfterSend p k) = point_place file.tree p k
+duty_place file (duty.Got p k) = point_place file.tree p k
+duty_place file (duty.Miss p k) = point_place file.tree p k
+duty_place file (duty.AfterRead p k) = point_place file.tree p k
+duty_place file (duty.Body p k) = point_place file.tree p k
+duty_place file (duty.Exit p k) = point_place file.tree p k
+duty_place file (duty.Enter p k) = point_place file.tree p k
+duty_place file (duty.Leave p k) = point_place file.tree p k
+duty_place file (duty.Stable p k label tag receive) = point_place file.tree p k
+duty_place file (duty.Frame p k label tag receive) = point_place file.tree p k
+duty_place file (duty.Deploy node) = deployed_place file.tree file.decls node
 
 -- An obligation is not too large, and the other thing that is asked of its sequent holds.
 abbrev pub sequent_wrong : File → Duty → Sequent → List Wrong → List Wrong

@@ -13,7 +13,7 @@ use Rattle.dl_inv.specs.Obligations.{invariant_at}
 use Rattle.dl_inv.specs.Steps.{tag_of}
 use Rattle.dl_file.specs.declared.file.File.{File}
 use Rattle.dl_faults.specs.declared.wrong.Named.{Named}
-use Rattle.dl_faults.specs.declared.wrong.Named.TheVariants.{Nothing, Hook, Obligation}
+use Rattle.dl_faults.specs.declared.wrong.Named.TheVariants.{Nothing, Hook, Label, Obligation}
 
 abbrev pub no_place : Place
 no_place = record { line = 0; col = 0 }
@@ -67,4 +67,5 @@ obligation file (duty.Deploy node) = form (codes "deploy") (name file (first_nam
 abbrev pub shown : File → Named → Option Tree
 shown file Nothing = None
 shown file (Hook hook) = Some (name file (hook_at file.decls hook).sym)
+shown file (Label label) = Some (name file (label_name file.decls label))
 shown file (Obligation duty) = Some (obligation file duty)

@@ -1,7 +1,6 @@
 -- What a check of a file answers.
 use Rattle.std.specs.Prelude.{◌≡◌, Option, Some, None, Result, Ok, Err, length}
 use Rattle.dl_model.specs.Lookup.{deploy_of}
-use Rattle.dl_inv.specs.Duties.{duties_of}
 use Rattle.dl_file.specs.declared.answer.Accepted.{Accepted}
 use Rattle.dl_file.specs.declared.answer.Fault.{Fault}
 use Rattle.dl_file.specs.declared.answer.Fault.TheVariants.{At, Memory}
@@ -10,6 +9,7 @@ use Rattle.dl_faults.specs.declared.wrong.Named.{Named}
 use Rattle.dl_faults.specs.declared.wrong.Wrong.{Wrong}
 use Rattle.dl_faults.specs.Wrong.{naming}
 use Rattle.dl_faults.specs.Shown.{shown}
+use Rattle.dl_faults.specs.Whole.{duties_of}
 use Rattle.dl_faults.specs.Worlds.{world_fault}
 use Rattle.dl_faults.specs.Obligations.{obligation_fault}
 

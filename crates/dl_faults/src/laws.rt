@@ -3,10 +3,12 @@
 ghost use Rattle.std.specs.Prelude.{◌≡◌, ◌↔◌, ◌++◌, false, List, [], None, Some, codes};
 ghost use Rattle.std.specs.List.{AllByRecursion as Each};
 ghost use Rattle.dl_model.specs.Formed.{IsFormed};
-ghost use Rattle.dl_model.specs.Safe.{EachFreeRunMeetsInvariants};
+ghost use Rattle.dl_model.specs.Safe.{EachFreeRunMeetsInvariants, EachRunIsSafe};
 ghost use Rattle.dl_model.specs.Worlds.{KeepsWorlds};
-ghost use Rattle.dl_inv.specs.Duties.{duties_of};
-ghost use Rattle.dl_inv.specs.Taken.{IsMet};
+ghost use Rattle.dl_inv.specs.Duties.{duties_of as duties_of_states};
+ghost use Rattle.dl_inv.specs.Taken.{IsMet as StateIsMet};
+ghost use Rattle.dl_triples.specs.Duties.{duties_of as duties_of_programs};
+ghost use Rattle.dl_triples.specs.Taken.{IsMet as ProgramIsMet};
 ghost use Rattle.dl_file.specs.declared.file.File.{File};
 ghost use Rattle.dl_faults.specs.declared.wrong.Wrong.{Wrong};
 ghost use Rattle.dl_faults.specs.Wrong.{at, naming, earliest, joined, GoesFirst};
@@ -14,11 +16,12 @@ ghost use Rattle.dl_faults.specs.Worlds.{world_fault};
 ghost use Rattle.dl_faults.specs.Obligations.{obligation_fault};
 ghost use Rattle.dl_faults.specs.Verdict.{counts_of, first_fault};
 ghost use Rattle.dl_faults.specs.Shown.{shown, word};
-ghost use Rattle.dl_faults.specs.declared.wrong.Named.TheVariants.{Hook, Obligation};
-ghost use Rattle.dl_sequent.specs.declared.duty.Duty.TheVariants.{StepProtocol, StepInvariant};
+ghost use Rattle.dl_faults.specs.declared.wrong.Named.TheVariants.{Hook, Label, Obligation};
+ghost use Rattle.dl_sequent.specs.declared.duty.Duty.TheVariants.{Got, StepProtocol, StepInvariant};
 ghost use Rattle.dl_faults.specs.Trees.{place};
 ghost use Rattle.dl_faults.specs.Examples.{proved, unproved, unfinished, extra, coreless, uncovered, outside, lacking, duel, step, duel_step};
-ghost use Rattle.dl_faults.specs.Given.{FileIsFormed, HasNoPrograms};
+ghost use Rattle.dl_faults.specs.ProgramExamples.{played, noted, said, framed, called, entered, promised, second_point};
+ghost use Rattle.dl_faults.specs.Given.{FileIsFormed};
 
 /// What is answered of several things that are wrong: the one that goes before all that stand in front of it in the list,
 /// and that none behind it goes before. There is none just where nothing is wrong. Of a list in two parts it is the
@@ -29,21 +32,29 @@ pub fn earliest_goes_first()
     ensures parts { (front behind : List Wrong) → earliest (front ++ behind) ≡ joined (earliest front) (earliest behind) }
 {}
 
-/// A formed file without programs keeps to its worlds just where nothing is wrong with them.
+/// A formed file keeps to its worlds just where nothing is wrong with them.
 pub fn worlds_are_kept()
-    ensures { (file : File) → IsFormed file.decls → HasNoPrograms file → (world_fault file ≡ None) ↔ KeepsWorlds file.decls }
+    ensures { (file : File) → IsFormed file.decls → (world_fault file ≡ None) ↔ KeepsWorlds file.decls }
 {}
 
-/// Where nothing is wrong with the obligations of a formed file and their proofs, each of its obligations of protocols and
-/// invariants is valid, for some names that it may take.
+/// Where nothing is wrong with the obligations of a formed file and their proofs, each of its obligations is valid, for some
+/// names that it may take: those of protocols and invariants, and those of procedures and the deployment.
 pub fn obligations_are_met()
-    ensures { (file : File) → FileIsFormed file → obligation_fault file ≡ None → Each (IsMet file.decls) (duties_of file.decls) }
+    ensures states { (file : File) → FileIsFormed file → obligation_fault file ≡ None → Each (StateIsMet file.decls) (duties_of_states file.decls) }
+    ensures programs { (file : File) → FileIsFormed file → obligation_fault file ≡ None → Each (ProgramIsMet file.decls) (duties_of_programs file.decls) }
 {}
 
-/// Where nothing is wrong with a formed file without programs, each coherence of the composed world and each invariant
-/// holds after every run of free nodes, and in the first state.
+/// Where nothing is wrong with a formed file, every run of it is safe: each state meets the coherences of the composed world
+/// and the invariants, each program send its guard and the hooks of the composed world, and each program that ended its
+/// postcondition.
+pub fn faultless_files_are_safe()
+    ensures { (file : File) → FileIsFormed file → first_fault file ≡ None → EachRunIsSafe file.decls }
+{}
+
+/// Where nothing is wrong with a formed file, each coherence of the composed world and each invariant holds after every run
+/// of free nodes, and in the first state.
 pub fn faultless_files_keep_invariants()
-    ensures { (file : File) → FileIsFormed file → HasNoPrograms file → first_fault file ≡ None → EachFreeRunMeetsInvariants file.decls }
+    ensures { (file : File) → FileIsFormed file → first_fault file ≡ None → EachFreeRunMeetsInvariants file.decls }
 {}
 
 /// The first faults of nine small files: the answers are those of an independent reading of the notation.
@@ -63,9 +74,26 @@ pub fn faults_compute()
     ensures first_of_two_shown { shown duel (Obligation (StepProtocol 0 0 false)) ≡ Some duel_step }
 {}
 
-/// The premises of [`faultless_files_keep_invariants`] can be met: by the first of these files.
+/// The first faults of seven small files with procedures: the answers are those of an independent reading of the notation.
+pub fn faults_of_programs_compute()
+    ensures played { first_fault played ≡ None }
+    ensures counts { counts_of played ≡ record { nodes = 2; labels = 2; hooks = 1; invariants = 0; programs = 1; obligations = 8 } }
+    ensures noted { first_fault noted ≡ Some (at 20 (place 9 98)) }
+    ensures said { first_fault said ≡ Some (at 20 (place 9 70)) }
+    ensures framed { first_fault framed ≡ Some (naming 23 (place 10 75) (Label 0)) }
+    ensures framed_shown { shown framed (Label 0) ≡ Some (word (codes "g")) }
+    ensures called { first_fault called ≡ Some (naming 22 (place 10 58) (Hook 0)) }
+    ensures entered { first_fault entered ≡ Some (naming 22 (place 11 13) (Hook 0)) }
+    ensures promised { first_fault promised ≡ Some (naming 30 (place 9 88) (Obligation (Got 0 2))) }
+    ensures promised_shown { shown promised (Obligation (Got 0 2)) ≡ Some second_point }
+{}
+
+/// The premises of [`faultless_files_are_safe`] can be met: by the first of the files without procedures and by the first of
+/// those with some.
 pub fn premises_can_be_met()
     ensures formed { FileIsFormed proved }
-    ensures programs { HasNoPrograms proved }
+    ensures safe { EachRunIsSafe proved.decls }
     ensures keeps { EachFreeRunMeetsInvariants proved.decls }
+    ensures formed_with_programs { FileIsFormed played }
+    ensures safe_with_programs { EachRunIsSafe played.decls }
 {}

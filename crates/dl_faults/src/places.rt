@@ -1,8 +1,9 @@
 //! Where the parts of a file stand, by its tree.
 
-ghost use Rattle.std.specs.Prelude.{◌≡◌, map, ◌++◌, flat_map, MatchOption, None, Some, OnOk, IfOk, codes};
+ghost use Rattle.std.specs.Prelude.{◌≡◌, map, ◌++◌, drop, flat_map, MatchOption, None, Some, OnOk, IfOk, codes};
 ghost use Rattle.std.specs.List.{find};
-ghost use Rattle.dl_tree.specs.TreePlace.{place_of};
+ghost use Rattle.dl_faults.specs.Code.{stood_at};
+ghost use Rattle.dl_faults.specs.ProgramPlaces.{tree_at as tree_among, part_at as part_of, label_part as part_of_label, label_word as word_of_label, formula_in as formula_of, behind as behind_first, body_of as commands_of, proc_tree as tree_of_proc, program_place as place_of_program};
 ghost use Rattle.dl_faults.specs.Places.{parts_of as all_parts, is_word as is_this_word, begins_with as begins_with_word, item as item_of, part_named as first_named, names_label as names_a_label, named_list, label_lists, coherence_place as place_of_coherence, invariant_place as place_of_invariant, hook_place as place_of_hook, behind_word, place_in as place_among};
 
 use dl_tree::{Place, Tree};
@@ -31,7 +32,7 @@ fn is_word(tree: &Tree, word: &str) -> bool
 }
 
 /// Whether the tree is a list that begins with the word.
-fn begins_with(tree: &Tree, word: &str) -> bool
+pub(crate) fn begins_with(tree: &Tree, word: &str) -> bool
     ensures { result ≡ begins_with_word word.now tree.now }
 {
     match parts_of(tree).first() {
@@ -127,25 +128,76 @@ fn names_label(tree: &Tree) -> bool
     reads || quantifies
 }
 
-/// Adds the place of a list that names a label.
-fn add_place(tree: &Tree, places: &mut Items<Place>) -> Result<(), AllocError>
-    ensures { OnOk result (places.new ≡ places.old ++ map place_of (named_list tree.now)) }
+/// Which part of a list that names a label is its name.
+fn label_part(list: &Tree) -> usize
+    ensures { result ≡ part_of_label list.now }
+{
+    if begins_with(list, "each") || begins_with(list, "any") {
+        2
+    } else {
+        1
+    }
+}
+
+/// The tree with this number, or the whole where there is none.
+pub(crate) fn tree_at<'a>(whole: &'a Tree, trees: &'a [Tree], n: usize) -> &'a Tree
+    ensures { result.now ≡ tree_among whole.now trees.now n }
+{
+    match trees.get(n) {
+        Some(tree) => tree,
+        None => whole,
+    }
+}
+
+/// The part with this number, or the tree itself where there is none.
+pub(crate) fn part_at(tree: &Tree, n: usize) -> &Tree
+    ensures { result.now ≡ part_of tree.now n }
+{
+    tree_at(tree, parts_of(tree), n)
+}
+
+/// The name of the label in a list that names one.
+pub(crate) fn label_word(list: &Tree) -> &Tree
+    ensures { result.now ≡ word_of_label list.now }
+{
+    part_at(list, label_part(list))
+}
+
+/// Where a list that names a label stands, or the name of the label in it.
+fn stand_at(words: bool, list: &Tree) -> Place
+    ensures { result ≡ stood_at words list.now }
+{
+    if words {
+        label_word(list).place()
+    } else {
+        list.place()
+    }
+}
+
+/// Adds the place of a list that names a label, or that of the label's name.
+fn add_place(words: bool, tree: &Tree, places: &mut Items<Place>) -> Result<(), AllocError>
+    ensures { OnOk result (places.new ≡ places.old ++ map (stood_at words) (named_list tree.now)) }
 {
     if names_label(tree) {
-        places.push(tree.place())?;
+        places.push(stand_at(words, tree))?;
     }
     Ok(())
 }
 
-/// Adds the places of the lists of a tree that name a label, in the order in which they stand.
+/// Adds the places of the lists of a tree that name a label, or of the labels' names, in the order in which they stand.
 #[cycle(labels)]
-fn add_label_places(tree: &Tree, alloc: Global, places: &mut Items<Place>) -> Result<(), AllocError>
-    ensures { OnOk result (places.new ≡ places.old ++ map place_of (label_lists tree.now)) }
+fn add_label_places(
+    words: bool,
+    tree: &Tree,
+    alloc: Global,
+    places: &mut Items<Place>,
+) -> Result<(), AllocError>
+    ensures { OnOk result (places.new ≡ places.old ++ map (stood_at words) (label_lists tree.now)) }
 {
-    add_place(tree, places)?;
+    add_place(words, tree, places)?;
     match tree {
         Tree::List { items, .. } => {
-            add_places_of_parts(items.as_slice(), alloc, places)?;
+            add_places_of_parts(words, items.as_slice(), alloc, places)?;
             Ok(())
         }
         Tree::Num { .. } => Ok(()),
@@ -155,27 +207,92 @@ fn add_label_places(tree: &Tree, alloc: Global, places: &mut Items<Place>) -> Re
 
 #[cycle(labels)]
 fn add_places_of_parts(
+    words: bool,
     parts: &[Tree],
     alloc: Global,
     places: &mut Items<Place>,
 ) -> Result<(), AllocError>
-    ensures { OnOk result (places.new ≡ places.old ++ map place_of (flat_map label_lists parts.now)) }
+    ensures { OnOk result (places.new ≡ places.old ++ map (stood_at words) (flat_map label_lists parts.now)) }
 {
     for part in parts {
-        add_label_places(part, alloc, places)?;
+        add_label_places(words, part, alloc, places)?;
     }
     Ok(())
 }
 
-/// The places of the lists of an invariant that name a label. Its only error is want of memory.
+/// The places of the lists of a tree that name a label, or of the labels' names. Its only error is want of memory.
 pub(crate) fn label_places(
     alloc: Global,
-    file: &Tree,
-    invariant: u8,
+    words: bool,
+    tree: &Tree,
 ) -> Result<Items<Place>, AllocError>
-    ensures { IfOk result (λ places. places ≡ map place_of (label_lists (item_of file.now (codes "invariant") invariant))) }
+    ensures { IfOk result (λ places. places ≡ map (stood_at words) (label_lists tree.now)) }
 {
     let mut places = Items::new(alloc);
-    add_label_places(item(file, "invariant", invariant), alloc, &mut places)?;
+    add_label_places(words, tree, alloc, &mut places)?;
     Ok(places)
+}
+
+// ---- procedures and the deployment
+
+/// The parts of a list behind the first.
+pub(crate) fn behind(list: &Tree) -> &[Tree]
+    ensures { result.now ≡ behind_first list.now }
+{
+    match parts_of(list) {
+        [_, parts @ ..] => parts,
+        [] => &[],
+    }
+}
+
+/// The commands of a loop: what stands behind its word, its test and its annotation.
+pub(crate) fn behind_note(list: &Tree) -> &[Tree]
+    ensures { result.now ≡ drop 3 (all_parts list.now) }
+{
+    match parts_of(list) {
+        [_, _, _, parts @ ..] => parts,
+        [_, _] => &[],
+        [_] => &[],
+        [] => &[],
+    }
+}
+
+/// The programs of a deployment: what stands behind its word and its world.
+pub(crate) fn behind_world(list: &Tree) -> &[Tree]
+    ensures { result.now ≡ drop 2 (all_parts list.now) }
+{
+    match parts_of(list) {
+        [_, _, parts @ ..] => parts,
+        [_] => &[],
+        [] => &[],
+    }
+}
+
+/// The item of a procedure. A number that no procedure has stands for the whole file.
+pub(crate) fn proc_tree(file: &Tree, proc: u8) -> &Tree
+    ensures { result.now ≡ tree_of_proc file.now proc }
+{
+    item(file, "proc", proc)
+}
+
+/// The formula in the part with this number of a procedure.
+pub(crate) fn formula_in(proc: &Tree, n: usize) -> &Tree
+    ensures { result.now ≡ formula_of proc.now n }
+{
+    part_at(part_at(proc, n), 1)
+}
+
+/// The commands of a procedure.
+pub(crate) fn body_of(proc: &Tree) -> &[Tree]
+    ensures { result.now ≡ commands_of proc.now }
+{
+    behind(part_at(proc, 7))
+}
+
+/// The place of the program with this number, or of the deployment where there is none.
+pub(crate) fn program_place(file: &Tree, n: usize) -> Place
+    ensures { result ≡ place_of_program file.now n }
+{
+    let deployment = item(file, "deploy", 0);
+    place_in(deployment, behind_world(deployment), n)
 }

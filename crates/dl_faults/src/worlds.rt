@@ -1,15 +1,17 @@
 //! The first fault of a file's worlds.
 
-ghost use Rattle.std.specs.Prelude.{◌≡◌, ◌≤◌, ◌&&◌, IfOk, length};
+ghost use Rattle.std.specs.Prelude.{◌≡◌, ◌≤◌, ◌&&◌, [], IfOk, length};
 ghost use Rattle.std.specs.List.{flat_map, enumerate_from};
 ghost use Rattle.dl_model.specs.Sorts.{has as has_position};
 ghost use Rattle.dl_model.specs.Lookup.{hook_at};
 ghost use Rattle.dl_model.specs.Formed.{IsFormed};
 ghost use Rattle.dl_faults.specs.Wrong.{earliest};
-ghost use Rattle.dl_faults.specs.Worlds.{hook_wrong, world_wrong, world_fault as fault_of_worlds};
+ghost use Rattle.dl_faults.specs.Worlds.{hook_wrong, world_wrong, declared_wrongs, world_wrongs, world_fault as fault_of_worlds};
 
+use crate::injections::no_world;
 use crate::invariants::invariants_fault;
 use crate::places::hook_place;
+use crate::programs::programs_fault;
 use crate::wrong::{Named, Wrong, earlier_of};
 use dl_file::File;
 use dl_model::{Decls, World};
@@ -76,16 +78,40 @@ pub fn hooks_of_worlds_fault(file: &File) -> Option<Wrong>
     found
 }
 
-/// The first fault of a file's worlds: a hook whose core or client is outside its world (rule 21), and of each invariant
-/// a label outside its world (24), or its world where that can't be injected into the world of the deployment, for a
-/// label (20) or a hook (22) that is named.
+// The first fault of the worlds and the invariants.
+fn declared_fault(alloc: Global, file: &File, none: &World) -> Result<Option<Wrong>, AllocError>
+    requires formed { IsFormed file.now.decls }
+    requires none { none.now ≡ record { sym = 0; labels = []; hooks = [] } }
+    ensures { IfOk result (λ found. found ≡ earliest (declared_wrongs file.now)) }
+{
+    let of_hooks = hooks_of_worlds_fault(file);
+    let of_invariants = invariants_fault(alloc, file, none)?;
+    Ok(earlier_of(of_hooks, of_invariants))
+}
+
+// And of the procedures and the deployment.
+fn fault_among(alloc: Global, file: &File, none: &World) -> Result<Option<Wrong>, AllocError>
+    requires formed { IsFormed file.now.decls }
+    requires none { none.now ≡ record { sym = 0; labels = []; hooks = [] } }
+    ensures { IfOk result (λ found. found ≡ earliest (world_wrongs file.now)) }
+{
+    let of_declared = declared_fault(alloc, file, none)?;
+    let of_programs = programs_fault(alloc, file, none)?;
+    Ok(earlier_of(of_declared, of_programs))
+}
+
+/// The first fault of a file's worlds: a hook whose core or client is outside its world (rule 21), of each invariant and each
+/// procedure a label outside its world (24 and 20), what a call holds on to on a label of its callee (23), or the world of an
+/// invariant, a callee or a program that can't be injected where it is asked for, for a label (20) or a hook (22) that is
+/// named.
 ///
 /// The condition is that the declarations are formed. The only error is want of memory.
 pub fn world_fault(alloc: Global, file: &File) -> Result<Option<Wrong>, AllocError>
     requires { IsFormed file.now.decls }
     ensures { IfOk result (λ found. found ≡ fault_of_worlds file.now) }
 {
-    let of_hooks = hooks_of_worlds_fault(file);
-    let of_invariants = invariants_fault(alloc, file)?;
-    Ok(earlier_of(of_hooks, of_invariants))
+    let none = no_world(alloc);
+    let found = fault_among(alloc, file, &none);
+    drop(none);
+    found
 }

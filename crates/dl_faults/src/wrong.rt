@@ -12,6 +12,8 @@ pub enum Named {
     Nothing,
     /// A hook, by its position in the file.
     Hook(u8),
+    /// A label, by its position in the file.
+    Label(u8),
     Obligation(Duty),
 }
 

@@ -1,5 +1,5 @@
 -- Names that are added to a set.
-use Rattle.std.proofs.Common.{◌≡◌, ℕ, ◌+◌, ◌<◌, ◌==◌, Bool, true, false, ◌||◌, if◌then◌else◌, List, [], ◌∷◌, ◌++◌, append-nil, length, get_or, drop, refl, sym, ap, subst, ◌∙◌, inl, inr}
+use Rattle.std.proofs.Common.{◌≡◌, ℕ, ◌+◌, ◌<◌, ◌==◌, Bool, true, false, ◌||◌, if◌then◌else◌, List, [], ◌∷◌, ◌++◌, append_assoc, length, get_or, drop, refl, sym, ap, subst, ◌∙◌, inl, inr}
 use Rattle.std.specs.List.{flat_map, AllByRecursion as Each}
 use Rattle.std.proofs.lemmas.Bool.{eqb-true, eq-eqb}
 use Rattle.std.proofs.lemmas.List.{drop_more}
@@ -7,14 +7,18 @@ use Rattle.std.proofs.lemmas.List.Folds.{list_any-append}
 use Rattle.dl_term.specs.Syntax.{opened}
 use Rattle.dl_term.specs.declared.syntax.Formula.{Formula}
 use Rattle.dl_term.specs.declared.syntax.Formula.TheVariants.{And, Or, Implies}
+use Rattle.dl_model.specs.declared.program.Command.{Command, Send, Await, Poll, Read, Set, If', While', Call}
+use Rattle.dl_model.specs.declared.program.Command.TheVariants.{If as IfOf, While as WhileOf}
 use Rattle.dl_model.specs.declared.program.Proc.{Proc}
 use Rattle.dl_model.specs.declared.file.Decls.{Decls}
 use Rattle.dl_model.specs.Sorts.{has}
 use Rattle.dl_model.specs.Spoken.{bound_names}
-use Rattle.dl_model.specs.Formed.{file_bound}
+use Rattle.dl_model.specs.Block.{Block, block_of, followed, row_block}
+use Rattle.dl_model.specs.Formed.{block_bound, file_bound}
 use Rattle.dl_model.proofs.Small.{or-true-left, or-true-right, either-true}
 use Rattle.dl_formed.proofs.Judging.{bound_of_proc}
-use Rattle.dl_formed_file.specs.Bound.{with_name, with_names, protocol_bound, hook_bound, invariant_bound, bound_outside_programs}
+use Rattle.dl_faults.proofs.Walking.{yes-block, no-block, no_row, body-block}
+use Rattle.dl_formed_file.specs.Bound.{with_name, with_names, protocol_bound, hook_bound, invariant_bound, command_bound, proc_bound, bound_anywhere}
 
 pub names_added : (names xs ys : List ℕ) → with_names (with_names names xs) ys ≡ with_names names (xs ++ ys)
 names_added names [] ys = refl
@@ -95,12 +99,45 @@ had-each P (x ∷ xs) h = (
   had-each P xs (λ n there. h n (or-true-right (n == x) (has xs n) there)),
 )
 
--- ---- without programs
+-- ---- what procedures bind
 
-pub all-outside : (decls : Decls) → decls.procs ≡ [] → bound_outside_programs decls ≡ file_bound decls
-all-outside decls none =
-    let protocols = flat_map protocol_bound decls.inst.protocols in
-    let hooks = flat_map hook_bound decls.hooks in
-    let invariants = flat_map invariant_bound decls.invariants in
-    sym (ap (λ (last : List ℕ). protocols ++ (hooks ++ last)) (append-nil invariants))
-    ∙ ap (λ (procs : List Proc). protocols ++ (hooks ++ (invariants ++ flat_map bound_of_proc procs))) (sym none)
+command-first : (command : Command) (rest : Block) → block_bound (followed command rest) ≡ command_bound command ++ block_bound rest
+command-first (Send note label tag to args) rest = refl
+command-first (Await note label tag sender args) rest = refl
+command-first (Poll note got label tag sender args) rest = refl
+command-first (Read note into label field index) rest = refl
+command-first (Set target value) rest = refl
+command-first (If' test s left t right) rest = sym (append_assoc (block_bound (row_block left)) (block_bound (row_block right)) (block_bound rest))
+command-first (While' test note s body) rest = sym (append_assoc (bound_names note) (block_bound (row_block body)) (block_bound rest))
+command-first (Call note frame into callee args) rest = sym (append_assoc (bound_names note) (bound_names frame) (block_bound rest))
+
+pub commands-bound : (commands : List Command) → flat_map command_bound commands ≡ block_bound (block_of commands)
+commands-bound [] = refl
+commands-bound (command ∷ commands) =
+    ap (λ (names : List ℕ). command_bound command ++ names) (commands-bound commands) ∙ sym (command-first command (block_of commands))
+
+-- a choice, by the commands of its sides
+pub bound-If : (test : Formula) (chosen other : List Command) → command_bound (IfOf test chosen other) ≡ flat_map command_bound chosen ++ flat_map command_bound other
+bound-If test chosen other =
+    ap (λ b. block_bound b ++ block_bound (row_block (no_row (IfOf test chosen other)).1)) (yes-block test chosen other)
+    ∙ ap (λ b. block_bound (block_of chosen) ++ block_bound b) (no-block test chosen other)
+    ∙ ap (λ (names : List ℕ). names ++ block_bound (block_of other)) (sym (commands-bound chosen))
+    ∙ ap (λ (names : List ℕ). flat_map command_bound chosen ++ names) (sym (commands-bound other))
+
+-- a loop, by the commands of its body
+pub bound-While : (test note : Formula) (body : List Command) → command_bound (WhileOf test note body) ≡ bound_names note ++ flat_map command_bound body
+bound-While test note body =
+    ap (λ b. bound_names note ++ block_bound b) (body-block test note body)
+    ∙ ap (λ (names : List ℕ). bound_names note ++ names) (sym (commands-bound body))
+
+same-procs : (procs : List Proc) → flat_map proc_bound procs ≡ flat_map bound_of_proc procs
+same-procs [] = refl
+same-procs (proc ∷ procs) =
+    ap (λ (names : List ℕ). (bound_names proc.pre ++ (bound_names proc.post ++ names)) ++ flat_map proc_bound procs) (commands-bound proc.body)
+    ∙ ap (λ (names : List ℕ). bound_of_proc proc ++ names) (same-procs procs)
+
+-- the code finds the names that are bound anywhere in the file
+pub all-bound : (decls : Decls) → bound_anywhere decls ≡ file_bound decls
+all-bound decls =
+    ap (λ (last : List ℕ). flat_map protocol_bound decls.inst.protocols ++ (flat_map hook_bound decls.hooks ++ (flat_map invariant_bound decls.invariants ++ last)))
+    (same-procs decls.procs)

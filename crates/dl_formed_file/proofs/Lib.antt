@@ -1,4 +1,5 @@
 pub mod BoundLemmas
 pub mod KeyLemmas
 pub mod OnceLemmas
+pub mod OwnLemmas
 pub mod FileLemmas

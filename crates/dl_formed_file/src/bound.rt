@@ -4,16 +4,16 @@ ghost use Rattle.std.specs.Prelude.{◌≡◌, [], IfOk, OnOk};
 ghost use Rattle.std.specs.List.{flat_map};
 ghost use Rattle.dl_model.specs.Formed.{transition_bound, tag_bound, coherence_bound};
 ghost use Rattle.dl_model.specs.Spoken.{bound_names};
-ghost use Rattle.dl_formed_file.specs.Bound.{with_name, with_names, protocol_bound, hook_bound, invariant_bound, bound_outside_programs};
+ghost use Rattle.dl_formed_file.specs.Bound.{with_name, with_names, protocol_bound, hook_bound, invariant_bound, command_bound, proc_bound, bound_anywhere};
 
-use dl_model::{Decls, Hook, Invariant, Protocol, Tag, Transition};
+use dl_model::{Command, Decls, Hook, Invariant, Proc, Protocol, Tag, Transition};
 use dl_term::Formula;
 use indexmap::IndexSet;
 use std::alloc::{AllocError, Global};
 
-/// The names that quantifiers bind outside of programs, each once. The one refusal is want of memory.
+/// The names that quantifiers bind, each once. The one refusal is want of memory.
 pub(crate) fn bound_names(alloc: Global, decls: &Decls) -> Result<IndexSet<u32>, AllocError>
-    ensures { IfOk result (λ set. set.keys ≡ with_names [] (bound_outside_programs decls.now)) }
+    ensures { IfOk result (λ set. set.keys ≡ with_names [] (bound_anywhere decls.now)) }
 {
     let mut set = IndexSet::new(alloc);
     add_decls(&mut set, decls)?;
@@ -22,11 +22,12 @@ pub(crate) fn bound_names(alloc: Global, decls: &Decls) -> Result<IndexSet<u32>,
 
 #[tactic(auto, using(crate::proofs::BoundLemmas::names_added))]
 fn add_decls(set: &mut IndexSet<u32>, decls: &Decls) -> Result<(), AllocError>
-    ensures { OnOk result (set.new.keys ≡ with_names set.old.keys (bound_outside_programs decls.now)) }
+    ensures { OnOk result (set.new.keys ≡ with_names set.old.keys (bound_anywhere decls.now)) }
 {
     add_protocols(set, decls.inst.protocols.as_slice())?;
     add_hooks(set, decls.hooks.as_slice())?;
     add_invariants(set, decls.invariants.as_slice())?;
+    add_procs(set, decls.procs.as_slice())?;
     Ok(())
 }
 
@@ -100,6 +101,64 @@ fn add_invariants(set: &mut IndexSet<u32>, invariants: &[Invariant]) -> Result<(
         add_formula(set, &invariant.formula)?;
     }
     Ok(())
+}
+
+fn add_procs(set: &mut IndexSet<u32>, procs: &[Proc]) -> Result<(), AllocError>
+    ensures { OnOk result (set.new.keys ≡ with_names set.old.keys (flat_map proc_bound procs.now)) }
+{
+    for proc in procs {
+        add_proc(set, proc)?;
+    }
+    Ok(())
+}
+
+#[tactic(auto, using(crate::proofs::BoundLemmas::names_added))]
+fn add_proc(set: &mut IndexSet<u32>, proc: &Proc) -> Result<(), AllocError>
+    ensures { OnOk result (set.new.keys ≡ with_names set.old.keys (proc_bound proc.now)) }
+{
+    add_formula(set, &proc.pre)?;
+    add_formula(set, &proc.post)?;
+    add_commands(set, proc.body.as_slice())?;
+    Ok(())
+}
+
+#[cycle(commands)]
+fn add_commands(set: &mut IndexSet<u32>, commands: &[Command]) -> Result<(), AllocError>
+    ensures { OnOk result (set.new.keys ≡ with_names set.old.keys (flat_map command_bound commands.now)) }
+{
+    for command in commands {
+        add_command(set, command)?;
+    }
+    Ok(())
+}
+
+#[cycle(commands)]
+#[tactic(auto, using(crate::proofs::BoundLemmas::names_added))]
+fn add_command(set: &mut IndexSet<u32>, command: &Command) -> Result<(), AllocError>
+    ensures { OnOk result (set.new.keys ≡ with_names set.old.keys (command_bound command.now)) }
+{
+    match command {
+        Command::Send { note, .. } => add_formula(set, note),
+        Command::Await { note, .. } => add_formula(set, note),
+        Command::Poll { note, .. } => add_formula(set, note),
+        Command::Read { note, .. } => add_formula(set, note),
+        Command::Set { .. } => Ok(()),
+        Command::If { yes, no, .. } => {
+            add_commands(set, yes.as_slice())?;
+            add_commands(set, no.as_slice())?;
+            Ok(())
+        }
+        Command::While { note, body, .. } => {
+            add_formula(set, note)?;
+            add_commands(set, body.as_slice())?;
+            Ok(())
+        }
+        Command::Call { note, frame, .. } => {
+            add_formula(set, note)?;
+            add_formula(set, frame)?;
+            Ok(())
+        }
+    }
 }
 
 #[tactic(auto, unfolding(dl_term::specs::Syntax::opened))]

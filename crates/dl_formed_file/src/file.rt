@@ -1,30 +1,28 @@
 //! Whether a file is formed.
 
 ghost use Rattle.std.specs.Prelude.{◌≡◌, ◌↔◌, [], true, IfOk};
-ghost use Rattle.dl_faults.specs.Given.{FileIsFormed, HasNoPrograms};
-ghost use Rattle.dl_formed_file.specs.Bound.{with_names, bound_outside_programs};
-ghost use Rattle.dl_formed_file.specs.Decided.{has_no_programs, is_deployed, names_are_right};
+ghost use Rattle.dl_faults.specs.Given.{FileIsFormed};
+ghost use Rattle.dl_formed_file.specs.Bound.{with_names, bound_anywhere};
+ghost use Rattle.dl_formed_file.specs.Decided.{is_deployed, names_are_right};
 
 use crate::bound::bound_names;
 use crate::keys::are_once;
 use crate::names::{are_below, are_formed};
+use crate::own::variables_are_below;
 use dl_file::File;
 use dl_formed::is_formed;
 use dl_model::Decls;
 use indexmap::IndexSet;
 use std::alloc::{AllocError, Global};
 
-/// Whether the file is formed and has no programs: its declarations are formed and have a deployment, each name that a
-/// quantifier binds has its text, each proof has the names that its obligation takes, of which no quantifier binds one,
-/// and no obligation has two proofs.
+/// Whether the file is formed: its declarations are formed and have a deployment, each name that a quantifier binds and
+/// each variable of a procedure has its text, each proof has the names that its obligation takes, of which none is a
+/// variable of the obligation and no quantifier binds one, and no obligation has two proofs.
 ///
 /// The one refusal is want of memory. The time is linear in the file's size times the nesting of its formulas.
 pub fn file_is_formed(alloc: Global, file: &File) -> Result<bool, AllocError>
-    ensures { IfOk result (λ formed. (formed ≡ true) ↔ (FileIsFormed file.now × HasNoPrograms file.now)) }
+    ensures { IfOk result (λ formed. (formed ≡ true) ↔ FileIsFormed file.now) }
 {
-    if !has_no_programs(&file.decls) {
-        return Ok(false);
-    }
     if !is_deployed(&file.decls) {
         return Ok(false);
     }
@@ -37,21 +35,15 @@ pub fn file_is_formed(alloc: Global, file: &File) -> Result<bool, AllocError>
     names_are_right(alloc, file)
 }
 
-fn has_no_programs(decls: &Decls) -> bool
-    ensures { result ≡ has_no_programs decls.now }
-{
-    decls.procs.len() == 0
-}
-
 fn is_deployed(decls: &Decls) -> bool
     ensures { result ≡ is_deployed decls.now }
 {
     decls.deploy.is_some()
 }
 
-// Whether each bound name has its text, and each proof the names that it takes.
+// Whether each bound name and each variable has its text, and each proof the names that it takes.
 fn names_are_right(alloc: Global, file: &File) -> Result<bool, AllocError>
-    ensures { IfOk result (λ right. right ≡ names_are_right file.now (with_names [] (bound_outside_programs file.now.decls))) }
+    ensures { IfOk result (λ right. right ≡ names_are_right file.now (with_names [] (bound_anywhere file.now.decls))) }
 {
     let bound = bound_names(alloc, &file.decls)?;
     let right = are_right_by(file, &bound);
@@ -63,5 +55,6 @@ fn are_right_by(file: &File, bound: &IndexSet<u32>) -> bool
     ensures { result ≡ names_are_right file.now bound.now.keys }
 {
     are_below(bound.as_slice(), file.names.len())
+        && variables_are_below(&file.decls, file.names.len())
         && are_formed(file.proofs.as_slice(), &file.decls, bound)
 }

@@ -8,6 +8,7 @@ mod bound;
 mod file;
 mod keys;
 mod names;
+mod own;
 mod taken;
 
 pub use file::file_is_formed;

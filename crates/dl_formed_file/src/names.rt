@@ -4,14 +4,18 @@ ghost use Rattle.std.specs.Prelude.{◌≡◌, ◌+◌, ◌<◌, drop, length, s
 ghost use Rattle.std.specs.List.{list_all};
 ghost use Rattle.dl_model.specs.Sorts.{has};
 ghost use Rattle.dl_formed.specs.Decided.{are_distinct, are_below};
+ghost use Rattle.dl_triples.specs.Taken.{own_names};
 ghost use Rattle.dl_formed_file.specs.Decided.{are_unbound, proof_is_formed};
 
+use crate::own::is_own;
 use crate::taken::names_taken;
 use dl_file::Proof;
 use dl_model::Decls;
+use dl_sequent::Duty;
 use indexmap::IndexSet;
 
-/// Whether each of the proofs has the names that its obligation takes, and no quantifier binds one.
+/// Whether each of the proofs has the names that its obligation takes, none of which is a variable of it, and no quantifier
+/// binds one.
 pub(crate) fn are_formed(proofs: &[Proof], decls: &Decls, bound: &IndexSet<u32>) -> bool
     ensures { result ≡ list_all (proof_is_formed decls.now bound.now.keys) proofs.now }
 {
@@ -28,6 +32,7 @@ fn is_formed(proof: &Proof, decls: &Decls, bound: &IndexSet<u32>) -> bool
 {
     proof.names.len() == names_taken(decls, proof.duty)
         && are_distinct(proof.names.as_slice())
+        && are_new(proof.names.as_slice(), decls, proof.duty)
         && are_unbound(proof.names.as_slice(), bound)
 }
 
@@ -51,7 +56,8 @@ fn stands_later(names: &[u32], place: usize) -> bool
     has_name(&names[place + 1..], names[place])
 }
 
-fn has_name(names: &[u32], name: u32) -> bool
+/// Whether the name is one of these.
+pub(crate) fn has_name(names: &[u32], name: u32) -> bool
     ensures { result ≡ has names.now name }
 {
     for known in names {
@@ -60,6 +66,18 @@ fn has_name(names: &[u32], name: u32) -> bool
         }
     }
     false
+}
+
+// Whether none of the names is a variable of the obligation.
+fn are_new(names: &[u32], decls: &Decls, duty: Duty) -> bool
+    ensures { result ≡ are_unbound (own_names decls.now duty) names.now }
+{
+    for name in names {
+        if is_own(decls, duty, *name) {
+            return false;
+        }
+    }
+    true
 }
 
 fn are_unbound(names: &[u32], bound: &IndexSet<u32>) -> bool

@@ -83,10 +83,10 @@ module _ (vs ks : List ℕ) where
   kept-told [] h = tt
   kept-told (f ∷ fs) h = keep-first (not (is_true f)) f (filter (λ g. not (is_true g)) fs) h.0 (kept-told fs h.1)
 
-  all-told : (fs : List Formula) → Each IsTold fs → IsTold (all_of fs)
+  pub all-told : (fs : List Formula) → Each IsTold fs → IsTold (all_of fs)
   all-told fs h = nested-told (filter (λ f. not (is_true f)) fs) (kept-told fs h)
 
-  between-told : (b : Bool) (sort : Sort) (t : Term) → knows vs ks t ≡ true → IsTold (if b then True else between sort t)
+  pub between-told : (b : Bool) (sort : Sort) (t : Term) → knows vs ks t ≡ true → IsTold (if b then True else between sort t)
   unfolding opened
   between-told true sort t h = refl
   between-told false sort t h = and-both _ _ h (and-both _ _ h refl)
@@ -109,7 +109,7 @@ module _ (vs ks : List ℕ) where
     updates-told o [] = tt
     updates-told o (u ∷ us) = (each-append IsTold (index_fits inst known step u.index) (value_fits inst known step u.value (field_sort o u.field)) (index-told u.index) (value-told u.value (field_sort o u.field)), updates-told o us)
 
-    fits-told : (o : Option Protocol) (us : List Update) → IsTold (all_fit inst known step o us)
+    pub fits-told : (o : Option Protocol) (us : List Update) → IsTold (all_fit inst known step o us)
     fits-told o us = all-told (flat_map (update_fits inst known step o) us) (each-flat IsTold (update_fits inst known step o) us (updates-told o us))
 
 -- ---- formulas without names
@@ -164,7 +164,7 @@ vars-within : (vs ks xs : List ℕ) → ((x : ℕ) → has xs x ≡ true → has
 vars-within vs ks [] h = tt
 vars-within vs ks (x ∷ xs) h = ((λ vars messages p q. p x (h x (first-in x xs))), vars-within vs ks xs (λ y m. h y (or-true-right (y == x) (has xs y) m)))
 
-get-within : (vs ks : List ℕ) (terms : List Term) (k : ℕ) → Each (IsWithin vs ks) terms → IsWithin vs ks (unwrap_or (slice_get terms k) (Num (pos 0)))
+pub get-within : (vs ks : List ℕ) (terms : List Term) (k : ℕ) → Each (IsWithin vs ks) terms → IsWithin vs ks (unwrap_or (slice_get terms k) (Num (pos 0)))
 get-within vs ks [] k h = λ vars messages p q. refl
 get-within vs ks (t ∷ ts) zero h = h.0
 get-within vs ks (t ∷ ts) (suc k) h = get-within vs ks ts k h.1
@@ -205,12 +205,12 @@ receiver-or-message r k y e = (or-both (y == r) false (or-left (y == r) (has (k 
 
 -- ---- sequents of steps
 
-names-of-sorts : (xs : List ℕ) (sorts : List Sort) → length xs ≡ length sorts → map (λ (v : Parameter). v.0) (with_sorts xs sorts) ≡ xs
+pub names-of-sorts : (xs : List ℕ) (sorts : List Sort) → length xs ≡ length sorts → map (λ (v : Parameter). v.0) (with_sorts xs sorts) ≡ xs
 names-of-sorts [] sorts e = refl
 names-of-sorts (x ∷ xs) [] e = absurd (omega (e, arith))
 names-of-sorts (x ∷ xs) (sort ∷ sorts) e = ap (λ ys. x ∷ ys) (names-of-sorts xs sorts (omega (e, arith)))
 
-map-length : (args : List Parameter) → length (arg_sorts args) ≡ length args
+pub map-length : (args : List Parameter) → length (arg_sorts args) ≡ length args
 map-length [] = refl
 map-length (a ∷ args) = ap suc (map-length args)
 
@@ -378,7 +378,7 @@ each-range : (P : ℕ → Type 0) (n a : ℕ) → ((k : ℕ) → k < a + n → P
 each-range P zero a h = tt
 each-range P (suc n) a h = (h a (omega arith), each-range P n (a + 1) (λ k l. h k (omega (l, arith))))
 
-each-position : {X : Type 0} (P : ℕ → Type 0) (xs : List X) → ((k : ℕ) → k < length xs → P k) → Each P (positions xs)
+pub each-position : {X : Type 0} (P : ℕ → Type 0) (xs : List X) → ((k : ℕ) → k < length xs → P k) → Each P (positions xs)
 each-position P xs h = each-range P (length xs) 0 (λ k l. h k (omega (l, arith)))
 
 found-at : {X : Type 0} (xs : List X) (k : ℕ) → k < length xs → (x : X) × (slice_get xs k ≡ Some x)

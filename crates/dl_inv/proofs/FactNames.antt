@@ -190,7 +190,7 @@ module _ (d : Decls) (formed : IsFormed d) where
   visible-named world invariant true = inr refl
   visible-named world invariant false = inl refl
 
-  module _ (world : World) (world_formed : WorldIsFormed d world) (i : ℕ) (invariant : Invariant) (is : slice_get d.invariants i ≡ Some invariant) where
+  module _ (world : World) (world_formed : WorldIsFormed d world) (i : ℕ) where
     known-labels : Each (λ label. label < length d.labels) world.labels
     known-labels = subst (λ n. Each (λ label. label < n) world.labels) (sym formed.label_names) world_formed.labels
 
@@ -207,48 +207,69 @@ module _ (d : Decls) (formed : IsFormed d) where
     before-of-visible : (n : ℕ) → has (map (λ (h : Hypothesis). h.name) visible) n ≡ true → has (map sym_of (take i d.invariants)) n ≡ true
     before-of-visible n m = some-there (visible_in d world) sym_of (λ v. visible-named world v (injects d (world_at d v.world) world)) (take i d.invariants) n m
 
-    abbrev all : List Hypothesis
-    all = (coherences ++ visible) ++ record { name = invariant.sym; formula = invariant.formula } ∷ []
+    abbrev both : List Hypothesis
+    both = coherences ++ visible
 
-    names-are : map (λ (h : Hypothesis). h.name) all ≡ (map (λ (h : Hypothesis). h.name) coherences ++ map (λ (h : Hypothesis). h.name) visible) ++ invariant.sym ∷ []
-    names-are = map-append (coherences ++ visible) (record { name = invariant.sym; formula = invariant.formula } ∷ []) ∙ ap (λ xs. xs ++ invariant.sym ∷ []) (map-append coherences visible)
+    both-are : map (λ (h : Hypothesis). h.name) both ≡ map (λ (h : Hypothesis). h.name) coherences ++ map (λ (h : Hypothesis). h.name) visible
+    both-are = map-append coherences visible
 
-    own-there : has invariants invariant.sym ≡ true
-    own-there = invariant-there d.invariants i invariant is
-
-    not-own : (n : ℕ) → has (map (λ (h : Hypothesis). h.name) coherences ++ map (λ (h : Hypothesis). h.name) visible) n ≡ true → has (invariant.sym ∷ []) n ≡ false
-    not-own n m = or-both (n == invariant.sym) false (eqb-other n invariant.sym (λ e. clash (subst (λ k. has (map (λ (h : Hypothesis). h.name) coherences ++ map (λ (h : Hypothesis). h.name) visible) k ≡ true) e m))) refl
-      where
-        clash : has (map (λ (h : Hypothesis). h.name) coherences ++ map (λ (h : Hypothesis). h.name) visible) invariant.sym ≡ true → ⊥
-        clash m = true-false (has (map (λ (h : Hypothesis). h.name) coherences ++ map (λ (h : Hypothesis). h.name) visible) invariant.sym) m
-            (lacks-all (map (λ (h : Hypothesis). h.name) coherences) (map (λ (h : Hypothesis). h.name) visible) invariant.sym
-            (absent _ (has d.labels invariant.sym) (label-of-coherence invariant.sym) (absent _ false (λ h. sym (no-label invariant.sym h) ∙ own-there) refl))
-            (absent _ (has (map sym_of (take i d.invariants)) invariant.sym) (before-of-visible invariant.sym) (not-before d.invariants i invariant is invariants-distinct)))
-
-    pub facts-distinct : AreDistinct (map (λ (h : Hypothesis). h.name) all)
-    facts-distinct = subst AreDistinct (sym names-are) (distinct-join (map (λ (h : Hypothesis). h.name) coherences ++ map (λ (h : Hypothesis). h.name) visible) (invariant.sym ∷ [])
-        (distinct-join (map (λ (h : Hypothesis). h.name) coherences) (map (λ (h : Hypothesis). h.name) visible)
+    both-distinct : AreDistinct (map (λ (h : Hypothesis). h.name) coherences ++ map (λ (h : Hypothesis). h.name) visible)
+    both-distinct =
+        distinct-join (map (λ (h : Hypothesis). h.name) coherences) (map (λ (h : Hypothesis). h.name) visible)
         (some-distinct (coherence_at d) (label_name d) (λ label. coherence-named label (protocol_at d.inst label).coherence) world.labels (places-distinct d.labels labels-distinct world.labels known-labels world_formed.labels_once))
         (some-distinct (visible_in d world) sym_of (λ v. visible-named world v (injects d (world_at d v.world) world)) (take i d.invariants) (take-distinct d.invariants i invariants-distinct))
-        (λ n m. absent _ (has invariants n) (λ v. take-has d.invariants i n (before-of-visible n v)) (no-label n (label-of-coherence n m))))
-        (refl, tt) not-own)
+        (λ n m. absent _ (has invariants n) (λ v. take-has d.invariants i n (before-of-visible n v)) (no-label n (label-of-coherence n m)))
 
-    -- no fact has the name of a word
-    pub facts-large : (n : ℕ) → has (map (λ (h : Hypothesis). h.name) all) n ≡ true → first_name ≤ n
-    facts-large n m = by-part (subst (λ xs. has xs n ≡ true) names-are m)
-      where
-        in-front : (xs ys : List ℕ) → has (xs ++ ys) n ≡ true → (has xs n ≡ true) ⊎ (has ys n ≡ true)
-        in-front [] ys h = inr h
-        in-front (x ∷ xs) ys h = elim (either-true (n == x) (has (xs ++ ys) n) h) [
-          | inl e ↦ inl (or-true-left (n == x) (has xs n) e)
-          | inr e ↦ elim (in-front xs ys e) [ inl f ↦ inl (or-true-right (n == x) (has xs n) f) | inr f ↦ inr f ]
-        ]
+    -- the facts of the world have distinct names
+    pub world-facts-distinct : AreDistinct (map (λ (h : Hypothesis). h.name) both)
+    world-facts-distinct = subst AreDistinct (sym both-are) both-distinct
 
-        by-part : has ((map (λ (h : Hypothesis). h.name) coherences ++ map (λ (h : Hypothesis). h.name) visible) ++ invariant.sym ∷ []) n ≡ true → first_name ≤ n
-        by-part h = elim (in-front (map (λ (h : Hypothesis). h.name) coherences ++ map (λ (h : Hypothesis). h.name) visible) (invariant.sym ∷ []) h) [
-          | inl e ↦ elim (in-front (map (λ (h : Hypothesis). h.name) coherences) (map (λ (h : Hypothesis). h.name) visible) e) [
-            | inl f ↦ large-label n (label-of-coherence n f)
-            | inr f ↦ large-invariant n (take-has d.invariants i n (before-of-visible n f))
+    in-front : (n : ℕ) (xs ys : List ℕ) → has (xs ++ ys) n ≡ true → (has xs n ≡ true) ⊎ (has ys n ≡ true)
+    in-front n [] ys h = inr h
+    in-front n (x ∷ xs) ys h = elim (either-true (n == x) (has (xs ++ ys) n) h) [
+      | inl e ↦ inl (or-true-left (n == x) (has xs n) e)
+      | inr e ↦ elim (in-front n xs ys e) [ inl f ↦ inl (or-true-right (n == x) (has xs n) f) | inr f ↦ inr f ]
+    ]
+
+    both-large : (n : ℕ) → has (map (λ (h : Hypothesis). h.name) coherences ++ map (λ (h : Hypothesis). h.name) visible) n ≡ true → first_name ≤ n
+    both-large n m = elim (in-front n (map (λ (h : Hypothesis). h.name) coherences) (map (λ (h : Hypothesis). h.name) visible) m) [
+      | inl f ↦ large-label n (label-of-coherence n f)
+      | inr f ↦ large-invariant n (take-has d.invariants i n (before-of-visible n f))
+    ]
+
+    -- and none of them has the name of a word
+    pub world-facts-large : (n : ℕ) → has (map (λ (h : Hypothesis). h.name) both) n ≡ true → first_name ≤ n
+    world-facts-large n m = both-large n (subst (λ xs. has xs n ≡ true) both-are m)
+
+    module _ (invariant : Invariant) (is : slice_get d.invariants i ≡ Some invariant) where
+      abbrev all : List Hypothesis
+      all = (coherences ++ visible) ++ record { name = invariant.sym; formula = invariant.formula } ∷ []
+
+      names-are : map (λ (h : Hypothesis). h.name) all ≡ (map (λ (h : Hypothesis). h.name) coherences ++ map (λ (h : Hypothesis). h.name) visible) ++ invariant.sym ∷ []
+      names-are = map-append (coherences ++ visible) (record { name = invariant.sym; formula = invariant.formula } ∷ []) ∙ ap (λ xs. xs ++ invariant.sym ∷ []) (map-append coherences visible)
+
+      own-there : has invariants invariant.sym ≡ true
+      own-there = invariant-there d.invariants i invariant is
+
+      not-own : (n : ℕ) → has (map (λ (h : Hypothesis). h.name) coherences ++ map (λ (h : Hypothesis). h.name) visible) n ≡ true → has (invariant.sym ∷ []) n ≡ false
+      not-own n m = or-both (n == invariant.sym) false (eqb-other n invariant.sym (λ e. clash (subst (λ k. has (map (λ (h : Hypothesis). h.name) coherences ++ map (λ (h : Hypothesis). h.name) visible) k ≡ true) e m))) refl
+        where
+          clash : has (map (λ (h : Hypothesis). h.name) coherences ++ map (λ (h : Hypothesis). h.name) visible) invariant.sym ≡ true → ⊥
+          clash m = true-false (has (map (λ (h : Hypothesis). h.name) coherences ++ map (λ (h : Hypothesis). h.name) visible) invariant.sym) m
+              (lacks-all (map (λ (h : Hypothesis). h.name) coherences) (map (λ (h : Hypothesis). h.name) visible) invariant.sym
+              (absent _ (has d.labels invariant.sym) (label-of-coherence invariant.sym) (absent _ false (λ h. sym (no-label invariant.sym h) ∙ own-there) refl))
+              (absent _ (has (map sym_of (take i d.invariants)) invariant.sym) (before-of-visible invariant.sym) (not-before d.invariants i invariant is invariants-distinct)))
+
+      pub facts-distinct : AreDistinct (map (λ (h : Hypothesis). h.name) all)
+      facts-distinct = subst AreDistinct (sym names-are) (distinct-join (map (λ (h : Hypothesis). h.name) coherences ++ map (λ (h : Hypothesis). h.name) visible) (invariant.sym ∷ [])
+          both-distinct (refl, tt) not-own)
+
+      -- no fact has the name of a word
+      pub facts-large : (n : ℕ) → has (map (λ (h : Hypothesis). h.name) all) n ≡ true → first_name ≤ n
+      facts-large n m = by-part (subst (λ xs. has xs n ≡ true) names-are m)
+        where
+          by-part : has ((map (λ (h : Hypothesis). h.name) coherences ++ map (λ (h : Hypothesis). h.name) visible) ++ invariant.sym ∷ []) n ≡ true → first_name ≤ n
+          by-part h = elim (in-front n (map (λ (h : Hypothesis). h.name) coherences ++ map (λ (h : Hypothesis). h.name) visible) (invariant.sym ∷ []) h) [
+            | inl e ↦ both-large n e
+            | inr e ↦ large-invariant n (elim (either-true (n == invariant.sym) false e) [ inl f ↦ subst (λ k. has invariants k ≡ true) (sym (eqb-true n invariant.sym f)) own-there | inr f ↦ cc ])
           ]
-          | inr e ↦ large-invariant n (elim (either-true (n == invariant.sym) false e) [ inl f ↦ subst (λ k. has invariants k ≡ true) (sym (eqb-true n invariant.sym f)) own-there | inr f ↦ cc ])
-        ]

@@ -1,11 +1,11 @@
 -- Names that no quantifier of the file binds are bound in no obligation.
-use Rattle.std.proofs.Common.{◌≡◌, ℕ, Bool, true, false, not, ◌==◌, if◌then◌else◌, Option, Some, None, List, [], ◌∷◌, ◌++◌, map, take, drop, filter, length, slice_get, unwrap_or, refl, ◌∙◌, ap, subst}
+use Rattle.std.proofs.Common.{◌≡◌, ℕ, Bool, true, false, not, ◌==◌, if◌then◌else◌, Option, Some, None, List, [], ◌∷◌, ◌++◌, map, take, filter, length, slice_get, unwrap_or, refl, ◌∙◌, ap, subst}
 use Rattle.std.specs.List.{AllByRecursion as Each, flat_map}
 use Rattle.dl_term.specs.declared.syntax.Lab.{Lab}
 use Rattle.dl_term.specs.declared.syntax.Lab.TheVariants.{Own, At}
 use Rattle.dl_term.specs.declared.syntax.Part.TheVariants.{From}
 use Rattle.dl_term.specs.declared.syntax.Sort.{Sort}
-use Rattle.dl_term.specs.declared.syntax.Term.{Term, Var, Msg}
+use Rattle.dl_term.specs.declared.syntax.Term.{Term, Msg}
 use Rattle.dl_term.specs.declared.syntax.Formula.{Formula, True, False, Eq, Lt, Le, Not', And', Or', Implies', All', Exists', Each', Any', more_of-Formula as one_formula, end_of-Formula as end_formula}
 use Rattle.dl_term.specs.Syntax.{opened}
 use Rattle.dl_model.specs.declared.protocol.Update.{Update}
@@ -32,22 +32,24 @@ use Rattle.dl_sequent.specs.Bounds.{bounds_of, lies_in, between, node_sort, fiel
 use Rattle.dl_sequent.specs.declared.duty.Duty.{Duty}
 use Rattle.dl_sequent.specs.declared.duty.Duty.TheVariants.{InitProtocol, InitInvariant, StepProtocol, StepInvariant}
 use Rattle.dl_subst.specs.Substitution.{for_own}
+use Rattle.dl_wp.specs.declared.steps.SendStep.{SendStep}
+use Rattle.dl_wp.specs.declared.steps.ReceiveStep.{ReceiveStep}
 use Rattle.dl_wp.specs.Steps.{Step, spoken_of, tag_in, seen, args_of_message, send_step, receive_step}
 use Rattle.dl_wp.specs.First.{at_first}
 use Rattle.dl_inv.specs.Joined.{is_true, nested, all_of}
-use Rattle.dl_inv.specs.Steps.{called, name_at, send_by, receive_by, index_fits, value_fits, update_fits, all_fit, hook_seen, is_hook_of, all_hooks, is_mine, tag_of, send_hypotheses, receive_hypotheses}
+use Rattle.dl_inv.specs.Steps.{called, send_by, receive_by, index_fits, value_fits, update_fits, all_fit, hook_seen, is_hook_of, all_hooks, is_mine, tag_of, send_hypotheses, receive_hypotheses}
 use Rattle.dl_inv.specs.Facts.{coherence_fact, coherence_at, visible_in, facts_of, injects}
 use Rattle.dl_inv.specs.Obligations.{send_known, send_sequent, receive_known, receive_sequent, coherence_of, self_fact, invariant_at, invariant_world, facts_with, hooks_fact, sequent_of}
 use Rattle.dl_inv.specs.Taken.{names_taken, bound_in, MayTake}
 use Rattle.dl_inv.proofs.Lists.{each-has, each-append, each-flat, each-kept, lacks-each, lacks-all, each-get, each-take, each-found}
 use Rattle.dl_inv.proofs.Bound.{bound-changed, bound-in-step, bound-before, Lacks}
 
-lacks-flat : {X : Type 0} (f : X → List ℕ) (xs : List X) (y : ℕ) → Each (λ x. has (f x) y ≡ false) xs → has (flat_map f xs) y ≡ false
+pub lacks-flat : {X : Type 0} (f : X → List ℕ) (xs : List X) (y : ℕ) → Each (λ x. has (f x) y ≡ false) xs → has (flat_map f xs) y ≡ false
 lacks-flat f [] y h = refl
 lacks-flat f (x ∷ xs) y h = lacks-all (f x) (flat_map f xs) y h.0 (lacks-flat f xs y h.1)
 
 module _ (y : ℕ) where
-  abbrev Frees : Formula → Type 0
+  abbrev pub Frees : Formula → Type 0
   Frees f = has (bound_names f) y ≡ false
 
   -- ---- joined formulas
@@ -66,10 +68,10 @@ module _ (y : ℕ) where
   kept-frees [] h = tt
   kept-frees (f ∷ fs) h = keep-first (not (is_true f)) f (filter (λ g. not (is_true g)) fs) h.0 (kept-frees fs h.1)
 
-  all-frees : (fs : List Formula) → Each Frees fs → Frees (all_of fs)
+  pub all-frees : (fs : List Formula) → Each Frees fs → Frees (all_of fs)
   all-frees fs h = nested-frees (filter (λ f. not (is_true f)) fs) (kept-frees fs h)
 
-  between-frees : (b : Bool) (sort : Sort) (t : Term) → Frees (if b then True else between sort t)
+  pub between-frees : (b : Bool) (sort : Sort) (t : Term) → Frees (if b then True else between sort t)
   unfolding opened
   between-frees true sort t = refl
   between-frees false sort t = refl
@@ -87,12 +89,12 @@ module _ (y : ℕ) where
     updates-free o [] = tt
     updates-free o (u ∷ us) = (each-append Frees (index_fits inst known step u.index) (value_fits inst known step u.value (field_sort o u.field)) (index-frees u.index) (value-frees u.value (field_sort o u.field)), updates-free o us)
 
-    fits-free : (o : Option Protocol) (us : List Update) → Frees (all_fit inst known step o us)
+    pub fits-free : (o : Option Protocol) (us : List Update) → Frees (all_fit inst known step o us)
     fits-free o us = all-frees (flat_map (update_fits inst known step o) us) (each-flat Frees (update_fits inst known step o) us (updates-free o us))
 
   -- ---- the formula at the first state
 
-  first-frees : (inst : Instances) (own : Option ℕ) (f : Formula) → Frees f → Frees (at_first inst own f)
+  pub first-frees : (inst : Instances) (own : Option ℕ) (f : Formula) → Frees f → Frees (at_first inst own f)
   unfolding opened
   first-frees inst own True h = refl
   first-frees inst own False h = refl
@@ -138,11 +140,11 @@ module _ (y : ℕ) where
     after-protocols : has (of_hooks ++ (of_invariants ++ of_procs)) y ≡ false
     after-protocols = lacks-back of_protocols (of_hooks ++ (of_invariants ++ of_procs)) y free
 
-    hook-free : (hook : ℕ) → Frees (hook_at d hook).formula
+    pub hook-free : (hook : ℕ) → Frees (hook_at d hook).formula
     hook-free hook = each-get (λ (h : Hook). Frees h.formula) d.hooks hook (record { sym = 0; core = 0; client = 0; tag = 0; args = []; formula = True }) refl
         (lacks-each (λ (hook : Hook). bound_names hook.formula) d.hooks y (lacks-front of_hooks (of_invariants ++ of_procs) y after-protocols))
 
-    invariants-free : Each (λ (invariant : Invariant). Frees invariant.formula) d.invariants
+    pub invariants-free : Each (λ (invariant : Invariant). Frees invariant.formula) d.invariants
     invariants-free = lacks-each (λ (invariant : Invariant). bound_names invariant.formula) d.invariants y (lacks-front of_invariants of_procs y (lacks-back of_hooks (of_invariants ++ of_procs) y after-protocols))
 
     invariant-free : (i : ℕ) → Frees (invariant_at d i).formula
@@ -152,7 +154,7 @@ module _ (y : ℕ) where
     protocol-free (Some p) = each-get IsFree d.inst.protocols p no_protocol refl protocols-free
     protocol-free None = refl
 
-    coherence-free : (o : Option ℕ) → has (coherence_bound (protocol_in d.inst o).coherence) y ≡ false
+    pub coherence-free : (o : Option ℕ) → has (coherence_bound (protocol_in d.inst o).coherence) y ≡ false
     coherence-free o = lacks-back (flat_map tag_bound (protocol_in d.inst o).tags) (coherence_bound (protocol_in d.inst o).coherence) y (protocol-free o)
 
     of-coherence : (c : Option Formula) → has (coherence_bound c) y ≡ false → Frees (unwrap_or c True)
@@ -175,13 +177,13 @@ module _ (y : ℕ) where
     label-free (Some p) tag = found-free p tag (slice_get d.inst.protocols p) refl
     label-free None tag = refl
 
-    tag-free : (own : Option ℕ) (label : Lab) (tag : ℕ) → has (tag_bound (tag_of d.inst own label tag)) y ≡ false
+    pub tag-free : (own : Option ℕ) (label : Lab) (tag : ℕ) → has (tag_bound (tag_of d.inst own label tag)) y ≡ false
     tag-free None Own tag = refl
     tag-free None (At label) tag = label-free (slice_get d.inst.of label) tag
     tag-free (Some p) Own tag = label-free (Some p) tag
     tag-free (Some p) (At label) tag = refl
 
-    received-free : (t : Tag) → has (tag_bound t) y ≡ false → Frees (receive_of t).guard
+    pub received-free : (t : Tag) → has (tag_bound t) y ≡ false → Frees (receive_of t).guard
     received-free t h = at t.receive (lacks-back (bound_names t.send.guard) (transition_bound t.receive) y h)
       where
         at : (o : Option Transition) → has (transition_bound o) y ≡ false → Frees (unwrap_or o never).guard
@@ -198,20 +200,47 @@ module _ (y : ℕ) where
     visible-free invariant true h = (h, tt)
     visible-free invariant false h = tt
 
-    facts-free : (i : ℕ) → Each (Lacks y) (facts_with d i)
-    facts-free i =
-        let world = invariant_world d i in
-        each-append (Lacks y) (facts_of d i world) (called (invariant_at d i).sym (invariant_at d i).formula ∷ [])
-        (each-append (Lacks y) (flat_map (coherence_at d) world.labels) (flat_map (visible_in d world) (take i d.invariants))
+    -- the facts of a world, with so many invariants
+    pub world-facts-free : (count : ℕ) (world : World) → Each (Lacks y) (facts_of d count world)
+    world-facts-free count world =
+        each-append (Lacks y) (flat_map (coherence_at d) world.labels) (flat_map (visible_in d world) (take count d.invariants))
         (each-flat (Lacks y) (coherence_at d) world.labels (each-has (λ label. Each (Lacks y) (coherence_at d label)) world.labels (λ label m. label-facts-free label (protocol_at d.inst label).coherence (coherence-free (slice_get d.inst.of label)))))
-        (each-flat (Lacks y) (visible_in d world) (take i d.invariants) (each-map (λ (v : Invariant). Frees v.formula) (λ v. Each (Lacks y) (visible_in d world v)) (take i d.invariants) (each-take (λ (v : Invariant). Frees v.formula) d.invariants i (λ j v l e. each-found (λ (v : Invariant). Frees v.formula) d.invariants j v invariants-free e))
-        (λ v h. visible-free v (injects d (world_at d v.world) world) h))))
-        (invariant-free i, tt)
+        (each-flat (Lacks y) (visible_in d world) (take count d.invariants) (each-map (λ (v : Invariant). Frees v.formula) (λ v. Each (Lacks y) (visible_in d world v)) (take count d.invariants) (each-take (λ (v : Invariant). Frees v.formula) d.invariants count (λ j v l e. each-found (λ (v : Invariant). Frees v.formula) d.invariants j v invariants-free e))
+        (λ v h. visible-free v (injects d (world_at d v.world) world) h)))
+
+    facts-free : (i : ℕ) → Each (Lacks y) (facts_with d i)
+    facts-free i = each-append (Lacks y) (facts_of d i (invariant_world d i)) (called (invariant_at d i).sym (invariant_at d i).formula ∷ []) (world-facts-free i (invariant_world d i)) (invariant-free i, tt)
+
+    -- the hooks of a send with these terms
+    pub step-hooks-free : (world : World) (label tag : ℕ) (step : SendStep) → Frees (all_hooks d world label tag step)
+    step-hooks-free world label tag step = all-frees (map (λ hook. hook_seen step (hook_at d hook)) (filter (is_hook_of d label tag) world.hooks))
+        (each-kept Frees (λ hook. hook_seen step (hook_at d hook)) (is_hook_of d label tag) world.hooks
+        (λ hook m q. ap (λ bound. has bound y) (bound-in-step step.label step.sender to_word step.to (hook_at d hook).args step.args (hook_at d hook).formula) ∙ hook-free hook))
 
     hooks-free : (world : World) (label tag : ℕ) (names : List ℕ) → Frees (all_hooks d world label tag (send_by (At label) tag names))
-    hooks-free world label tag names = all-frees (map (λ hook. hook_seen (send_by (At label) tag names) (hook_at d hook)) (filter (is_hook_of d label tag) world.hooks))
-        (each-kept Frees (λ hook. hook_seen (send_by (At label) tag names) (hook_at d hook)) (is_hook_of d label tag) world.hooks
-        (λ hook m q. ap (λ bound. has bound y) (bound-in-step (At label) (Var (name_at names 0)) to_word (Var (name_at names 1)) (hook_at d hook).args (map (λ x. Var x) (drop 2 names)) (hook_at d hook).formula) ∙ hook-free hook))
+    hooks-free world label tag names = step-hooks-free world label tag (send_by (At label) tag names)
+
+    -- what is known of the two steps
+    pub send-said-free : (known : Sequent) (step : SendStep) → Each (Lacks y) (send_hypotheses d.inst known step)
+    send-said-free known step =
+        let t = tag_of d.inst known.own step.label step.tag in (
+          ap (λ bound. has bound y) (bound-in-step step.label step.sender to_word step.to (arg_names t.args) step.args t.send.guard) ∙ lacks-front (bound_names t.send.guard) (transition_bound t.receive) y (tag-free known.own step.label step.tag),
+          (fits-free d.inst known (send_step d.inst known.own step) (spoken_of d.inst known.own step.label) t.send.updates, tt),
+        )
+
+    mine-free : (step : ReceiveStep) → Frees (is_mine step)
+    unfolding opened
+    mine-free step = refl
+
+    pub receive-said-free : (known : Sequent) (step : ReceiveStep) → Each (Lacks y) (receive_hypotheses d.inst known step)
+    receive-said-free known step =
+        let t = tag_of d.inst known.own step.label step.tag in (
+          mine-free step,
+          (
+            ap (λ bound. has bound y) (bound-in-step step.label step.receiver from_word (Msg step.msg From) (arg_names t.args) (args_of_message step.msg) (receive_of t).guard) ∙ received-free t (tag-free known.own step.label step.tag),
+            (fits-free d.inst known (receive_step d.inst known.own step) (spoken_of d.inst known.own step.label) (receive_of t).updates, tt),
+          ),
+        )
 
     -- ---- sequents
 
@@ -220,32 +249,17 @@ module _ (y : ℕ) where
         let s = send_sequent d.inst own label tag names before hooks f in
         let step = send_by label tag names in
         let known = send_known d.inst own label tag names in
-        let t = tag_of d.inst own label tag in
         lacks-all (flat_map (λ (h : Hypothesis). bound_names h.formula) s.facts) (bound_names s.goal) y
-        (lacks-flat (λ (h : Hypothesis). bound_names h.formula) s.facts y (each-append (Lacks y) before (send_hypotheses d.inst known step ++ hooks) b (each-append (Lacks y) (send_hypotheses d.inst known step) hooks (
-          ap (λ bound. has bound y) (bound-in-step label step.sender to_word step.to (arg_names t.args) step.args t.send.guard) ∙ lacks-front (bound_names t.send.guard) (transition_bound t.receive) y (tag-free own label tag),
-          (fits-free d.inst known (send_step d.inst own step) (spoken_of d.inst own label) t.send.updates, tt),
-        ) h)))
+        (lacks-flat (λ (h : Hypothesis). bound_names h.formula) s.facts y (each-append (Lacks y) before (send_hypotheses d.inst known step ++ hooks) b (each-append (Lacks y) (send_hypotheses d.inst known step) hooks (send-said-free known step) h)))
         (bound-before (send_step d.inst own step) (λ m. false) f y ∙ g)
-
-    mine-frees : (label : Lab) (tag : ℕ) (names : List ℕ) → Frees (is_mine (receive_by label tag names))
-    unfolding opened
-    mine-frees label tag names = refl
 
     receive-free : (own : Option ℕ) (label : Lab) (tag : ℕ) (names : List ℕ) (before : List Hypothesis) (f : Formula) → Each (Lacks y) before → Frees f → has (bound_in (receive_sequent d.inst own label tag names before f)) y ≡ false
     receive-free own label tag names before f b g =
         let s = receive_sequent d.inst own label tag names before f in
         let step = receive_by label tag names in
         let known = receive_known d.inst own label tag names in
-        let t = tag_of d.inst own label tag in
         lacks-all (flat_map (λ (h : Hypothesis). bound_names h.formula) s.facts) (bound_names s.goal) y
-        (lacks-flat (λ (h : Hypothesis). bound_names h.formula) s.facts y (each-append (Lacks y) before (receive_hypotheses d.inst known step) b (
-          mine-frees label tag names,
-          (
-            ap (λ bound. has bound y) (bound-in-step label step.receiver from_word (Msg step.msg From) (arg_names t.args) (args_of_message step.msg) (receive_of t).guard) ∙ received-free t (tag-free own label tag),
-            (fits-free d.inst known (receive_step d.inst own step) (spoken_of d.inst own label) (receive_of t).updates, tt),
-          ),
-        )))
+        (lacks-flat (λ (h : Hypothesis). bound_names h.formula) s.facts y (each-append (Lacks y) before (receive_hypotheses d.inst known step) b (receive-said-free known step)))
         (bound-before (receive_step d.inst own step) (λ m. false) f y ∙ g)
 
     pub obligation-free : (duty : Duty) (names : List ℕ) → has (bound_in (sequent_of d duty names)) y ≡ false

@@ -10,6 +10,6 @@ pub mod FormedParts
 pub mod Clean
 pub mod Captured
 pub mod FileNames
-mod Listing
-mod Building
-mod Kept
+pub mod Listing
+pub mod Building
+pub mod Kept

@@ -17,13 +17,13 @@ use std::alloc::{AllocError, Global};
 
 /// The labels and the hooks of a world.
 #[derive(Clone, Copy)]
-pub(crate) struct Extent<'a> {
-    pub(crate) labels: &'a [u8],
-    pub(crate) hooks: &'a [u8],
+pub struct Extent<'a> {
+    pub labels: &'a [u8],
+    pub hooks: &'a [u8],
 }
 
 /// The extent of the world at a position, with nothing in it where there is no such world.
-pub(crate) fn extent_of(decls: &Decls, world: u8) -> Extent<'_>
+pub fn extent_of(decls: &Decls, world: u8) -> Extent<'_>
     ensures labels { result.labels.now ≡ (world_at decls.now world).labels }
     ensures hooks { result.hooks.now ≡ (world_at decls.now world).hooks }
 {
@@ -96,7 +96,7 @@ fn injects(decls: &Decls, small: &Extent, large: &Extent) -> bool
 // ---- hypotheses
 
 /// Adds a hypothesis of this name.
-pub(crate) fn add_fact(
+pub fn add_fact(
     facts: &mut Items<Hypothesis>,
     name: u32,
     formula: Formula,
@@ -189,7 +189,7 @@ fn first_invariants(invariants: &[Invariant], count: u8) -> &[Invariant]
 }
 
 /// Adds the facts of a world, with the first so many invariants of the file.
-pub(crate) fn add_facts(
+pub fn add_facts(
     alloc: Global,
     facts: &mut Items<Hypothesis>,
     decls: &Decls,

@@ -77,8 +77,8 @@ fn between(alloc: Global, sort: Sort, term: &Term) -> Result<Formula, AllocError
     }
 }
 
-// The formula that says that the term is in the sort, `true` where its bounds tell that.
-fn in_sort(
+/// The formula that says that the term is in the sort, `true` where its bounds tell that.
+pub fn in_sort(
     alloc: Global,
     inst: &Instances,
     known: &Sequent,

@@ -16,12 +16,12 @@ use std::alloc::{AllocError, Global};
 // The name of the addressee.
 const TO: u32 = 5;
 
-// A send of a tag at a label, by its terms: the sender, the addressee and the arguments.
+/// A send of a tag at a label, by its terms: the sender, the addressee and the arguments.
 #[derive(Clone, Copy)]
-pub(crate) struct Sending<'a> {
-    pub(crate) label: u8,
-    pub(crate) tag: u8,
-    pub(crate) terms: &'a [Term],
+pub struct Sending<'a> {
+    pub label: u8,
+    pub tag: u8,
+    pub terms: &'a [Term],
 }
 
 // The hook, as it stands in the send.
@@ -74,7 +74,7 @@ fn add_hooks(
 }
 
 /// The formula that says that the send meets those of the hooks that are for it.
-pub(crate) fn all_hooks(
+pub fn all_hooks(
     alloc: Global,
     decls: &Decls,
     send: &Sending,

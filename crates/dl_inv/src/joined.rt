@@ -18,7 +18,7 @@ fn is_true(formula: &Formula) -> bool
 }
 
 /// Adds a formula to those that are joined, unless it is `true`.
-pub(crate) fn add_part(parts: &mut Items<Formula>, formula: Formula) -> Result<(), AllocError>
+pub fn add_part(parts: &mut Items<Formula>, formula: Formula) -> Result<(), AllocError>
     ensures { OnOk result (parts.new ≡ parts.old ++ filter (λ f. not (says_nothing f)) (formula ∷ [])) }
 {
     if is_true(&formula) {
@@ -29,7 +29,7 @@ pub(crate) fn add_part(parts: &mut Items<Formula>, formula: Formula) -> Result<(
 }
 
 /// Both formulas.
-pub(crate) fn both(alloc: Global, left: Formula, right: Formula) -> Result<Formula, AllocError>
+pub fn both(alloc: Global, left: Formula, right: Formula) -> Result<Formula, AllocError>
     ensures { IfOk result (λ made. made ≡ And left right) }
 {
     match Boxed::new(alloc, left) {
@@ -55,7 +55,7 @@ fn both_with(alloc: Global, left: Boxed<Formula>, right: Formula) -> Result<Form
 }
 
 /// All of the formulas, nested to the right. They are taken out of the list.
-pub(crate) fn join(alloc: Global, parts: &mut Items<Formula>) -> Result<Formula, AllocError>
+pub fn join(alloc: Global, parts: &mut Items<Formula>) -> Result<Formula, AllocError>
     ensures { IfOk result (λ made. made ≡ nested parts.old) }
 {
     match parts.pop() {

@@ -226,8 +226,8 @@ fn add_if_touched(
     Ok(())
 }
 
-// The protocol of a label.
-pub(crate) fn find_protocol(inst: &Instances, label: u8) -> Option<&Protocol>
+/// The protocol of a label.
+pub fn find_protocol(inst: &Instances, label: u8) -> Option<&Protocol>
     ensures { option_copied result ≡ protocol_found inst.now (slice_get inst.now.of label) }
 {
     match at(inst.of.as_slice(), usize::from(label)) {

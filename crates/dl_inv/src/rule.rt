@@ -1,18 +1,19 @@
 //! What is known of a step by the rule of its tag: its guard holds, and what it updates fits.
 
-ghost use Rattle.std.specs.Prelude.{◌≡◌, ◌++◌, ◌∷◌, [], unwrap_or, IfOk, OnOk};
+ghost use Rattle.std.specs.Prelude.{◌≡◌, ◌++◌, ◌∷◌, [], filter, map, unwrap_or, IfOk, OnOk};
 ghost use Rattle.std.specs.Option.{option_copied};
 ghost use Rattle.dl_term.specs.declared.syntax.Formula.{Eq, False};
 ghost use Rattle.dl_term.specs.declared.syntax.Term.{Msg};
 ghost use Rattle.dl_term.specs.declared.syntax.Part.TheVariants.{From, To};
 ghost use Rattle.dl_wp.specs.Steps.{args_of_message};
+ghost use Rattle.dl_model.specs.declared.sequent.Hypothesis.{Hypothesis as Fact};
 ghost use Rattle.dl_model.specs.Lookup.{arg_names, never, no_tag, receive_of as receive_in};
 ghost use Rattle.dl_inv.specs.Steps.{is_mine as is_addressed, send_hypotheses, receive_hypotheses};
-ghost use Rattle.dl_inv.specs.Code.{guard_put, rule_facts};
+ghost use Rattle.dl_inv.specs.Code.{guard_put, rule_facts, says_something};
 
 use crate::facts::add_fact;
 use crate::fits::{Scene, all_fit};
-use crate::joined::both;
+use crate::joined::{add_part, both};
 use crate::step::{in_step, params_of, step_terms};
 use dl_model::{Hypothesis, Instances, Sequent, Tag, Transition, Update};
 use dl_term::{Formula, Part, Sort, Term, copy_term};
@@ -77,6 +78,22 @@ fn add_rule(
     add_fact(facts, FITS, fits)
 }
 
+// Adds the guard, and that the updates fit, to formulas that are joined.
+fn add_rule_parts(
+    alloc: Global,
+    parts: &mut Items<Formula>,
+    scene: &Scene,
+    guard: Option<&Formula>,
+    updates: &[Update],
+) -> Result<(), AllocError>
+    ensures { OnOk result (parts.new ≡ parts.old ++ filter says_something (map (λ (fact : Fact). fact.formula) (rule_facts scene.now (unwrap_or (option_copied guard.entry) False) updates.now))) }
+{
+    let held = guard_in(alloc, &scene.sight, guard)?;
+    add_part(parts, held)?;
+    let fits = all_fit(alloc, scene, updates)?;
+    add_part(parts, fits)
+}
+
 // ---- sends
 
 fn send_of(tag: Option<&Tag>) -> Option<&Transition>
@@ -116,7 +133,7 @@ fn updates_of(transition: Option<&Transition>) -> &[Update]
 }
 
 /// Adds what is known of a send.
-pub(crate) fn add_send<'a>(
+pub fn add_send<'a>(
     alloc: Global,
     facts: &mut Items<Hypothesis>,
     inst: &'a Instances,
@@ -141,6 +158,34 @@ pub(crate) fn add_send<'a>(
     };
     let send = send_of(tag);
     add_rule(alloc, facts, &scene, guard_of(send), updates_of(send))
+}
+
+/// Adds the formulas of what [`add_send`] adds to those that are joined.
+pub fn add_send_parts<'a>(
+    alloc: Global,
+    parts: &mut Items<Formula>,
+    inst: &'a Instances,
+    known: &'a Sequent,
+    step: &'a SendStep,
+) -> Result<(), AllocError>
+    ensures { OnOk result (parts.new ≡ parts.old ++ filter says_something (map (λ (fact : Fact). fact.formula) (send_hypotheses inst.now known.now step.now))) }
+{
+    let tag = tag_of(inst, known.own, step.label, step.tag);
+    let scene = Scene {
+        inst,
+        known,
+        sight: Sight {
+            label: step.label,
+            node: &step.sender,
+            word: TO,
+            other: &step.to,
+            params: params_of(tag),
+            args: step.args.as_slice(),
+        },
+        protocol: spoken_of(inst, known.own, step.label),
+    };
+    let send = send_of(tag);
+    add_rule_parts(alloc, parts, &scene, guard_of(send), updates_of(send))
 }
 
 // ---- receives
@@ -204,7 +249,7 @@ fn add_receive_of<'a>(
 }
 
 /// Adds what is known of a receive.
-pub(crate) fn add_receive(
+pub fn add_receive(
     alloc: Global,
     facts: &mut Items<Hypothesis>,
     inst: &Instances,

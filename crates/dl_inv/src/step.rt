@@ -51,12 +51,7 @@ fn variables(alloc: Global, names: &[u32]) -> Result<Items<Term>, AllocError>
 }
 
 /// The send by the first name to the second, with the others as arguments.
-pub(crate) fn send_by(
-    alloc: Global,
-    label: Lab,
-    tag: u8,
-    names: &[u32],
-) -> Result<SendStep, AllocError>
+pub fn send_by(alloc: Global, label: Lab, tag: u8, names: &[u32]) -> Result<SendStep, AllocError>
     ensures { IfOk result (λ step. step ≡ sending label tag names.now) }
 {
     let args = variables(alloc, after_two(names))?;
@@ -70,7 +65,7 @@ pub(crate) fn send_by(
 }
 
 /// The receive by the first name of the message of the second.
-pub(crate) fn receive_by(label: Lab, tag: u8, names: &[u32]) -> ReceiveStep
+pub fn receive_by(label: Lab, tag: u8, names: &[u32]) -> ReceiveStep
     ensures { result ≡ receiving label tag names.now }
 {
     ReceiveStep {
@@ -84,7 +79,7 @@ pub(crate) fn receive_by(label: Lab, tag: u8, names: &[u32]) -> ReceiveStep
 // ---- its variables and messages
 
 /// The arguments of a tag, none where there is no tag.
-pub(crate) fn params_of(tag: Option<&Tag>) -> &[(u32, Sort)]
+pub fn params_of(tag: Option<&Tag>) -> &[(u32, Sort)]
     ensures { result.now ≡ (unwrap_or (option_copied tag.entry) no_tag).args }
 {
     match tag {
@@ -121,7 +116,7 @@ fn add_vars(names: &[u32], sorts: &[Sort], vars: &mut Items<(u32, Sort)>) -> Res
 }
 
 /// The variables of a send, with no hypothesis yet.
-pub(crate) fn send_known(
+pub fn send_known(
     alloc: Global,
     inst: &Instances,
     own: Option<u8>,
@@ -155,7 +150,7 @@ fn number_of_label(label: Lab) -> u8
 }
 
 /// The variable and the message of a receive, with no hypothesis yet.
-pub(crate) fn receive_known(
+pub fn receive_known(
     alloc: Global,
     inst: &Instances,
     own: Option<u8>,
@@ -180,7 +175,7 @@ pub(crate) fn receive_known(
 // ---- what a formula of the protocol says in it
 
 /// The terms of a step: its node, the other node, and the arguments.
-pub(crate) fn step_terms(
+pub fn step_terms(
     alloc: Global,
     node: &Term,
     other: &Term,

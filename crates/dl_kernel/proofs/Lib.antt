@@ -14,5 +14,6 @@ pub mod LineFacts
 pub mod AnswerLemmas
 pub mod KindLemmas
 pub mod RuleLemmas
+pub mod SoundLemmas
 pub mod Sound
 pub mod Replayed

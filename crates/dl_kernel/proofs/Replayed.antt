@@ -25,7 +25,8 @@ use Rattle.dl_kernel.specs.Parts.{as_equation, as_denied, as_and, as_or, as_impl
 use Rattle.dl_kernel.specs.Lines.{goal_word}
 use Rattle.dl_kernel.specs.Steps.{with_fact, with_goal, with_message, part_of, one_left, closes, split_goal, pick_goal, intro_goal, parts_of_fact, cases_of_fact, apply_fact, label_number, with_new, at_new, put_in, enter, instance, target, put_fact, put_target, rewrite_by, reduce_by, range_of, left_by, only_clean, after}
 use Rattle.dl_kernel.specs.Outcome.{Verdict, first_of, each_fault, fault_of, with_scripts, below, fault}
-use Rattle.dl_kernel.proofs.Sound.{AllValid, step-sound}
+use Rattle.dl_kernel.proofs.SoundLemmas.{AllValid}
+use Rattle.dl_kernel.proofs.Sound.{step-sound}
 
 -- all that is left has this own protocol
 abbrev KeepOwn : Option ℕ → Option (List Sequent) → Type 0

@@ -1,11 +1,11 @@
 -- Each rule is sound: a sequent is valid where all that the rule leaves is.
-use Rattle.std.proofs.Common.{◌≡◌, ◌<◌, ◌-ℤ◌, ℕ, zero, suc, ℤ, pos, ◌≤ℤ◌, ◌<ℤ◌, int_le, int_lt, T, Bool, true, false, not, ◌&&◌, ◌||◌, ◌==◌, if◌then◌else◌, List, [], ◌∷◌, ◌++◌, map, length, slice_get, Option, Some, None, is_none, IfSome, refl, sym, ◌∙◌, ap, subst, eq-eqb, eqb-true, le-leb, lt-ltb, arith}
+use Rattle.std.proofs.Common.{◌≡◌, ◌<◌, ◌-ℤ◌, ℕ, zero, suc, ℤ, pos, ◌≤ℤ◌, ◌<ℤ◌, int_le, int_lt, T, Bool, true, false, not, ◌&&◌, ◌||◌, ◌==◌, if◌then◌else◌, List, [], ◌∷◌, map, length, slice_get, Option, Some, None, is_none, IfSome, refl, sym, ◌∙◌, ap, subst, eq-eqb, eqb-true, le-leb, lt-ltb, arith}
 use Rattle.std.proofs.lemmas.Int.{ints, by_lt_z}
 use Rattle.std.proofs.lemmas.Bool.Decides.{Decides-int_eq}
 use Rattle.std.proofs.lemmas.List.Elements.{All-nil, All-cons}
 use Rattle.std.specs.Ordering.{int_eq}
 use Rattle.std.specs.Option.{option_map, option_and_then}
-use Rattle.std.specs.List.{AllByRecursion as Each, list_all, list_any, find}
+use Rattle.std.specs.List.{AllByRecursion as Each, list_all, list_any}
 use Rattle.dl_term.specs.declared.syntax.Lab.{Lab}
 use Rattle.dl_term.specs.declared.syntax.Lab.TheVariants.{Own, At}
 use Rattle.dl_term.specs.declared.syntax.Part.TheVariants.{Id, From, To, Live, Arg}
@@ -18,7 +18,6 @@ use Rattle.dl_term.specs.Meaning.{value, holds, part_in, every_message, some_mes
 use Rattle.dl_term.specs.Measures.{is_free_variable, is_free_message, is_free}
 use Rattle.dl_term.proofs.Agree.{holds-agree}
 use Rattle.dl_term.proofs.Choices.{not-chosen}
-use Rattle.dl_term.proofs.SameLemmas.{formula-is}
 use Rattle.dl_term.proofs.Quantifiers.{every_below-all, every_below-at, some_below-found, some_below-true, implied, implies-true, both-true, and-true}
 use Rattle.dl_subst.specs.Change.{captures}
 use Rattle.dl_subst.specs.Substitution.{for_variable, for_message, for_term, substituted, message_substituted, replaced}
@@ -43,111 +42,19 @@ use Rattle.dl_sequent.specs.declared.script.Rule.TheBlock as r
 use Rattle.dl_sequent.specs.Clean.{knows, var_names, message_names, mentions, is_clean, is_new}
 use Rattle.dl_sequent.specs.Bounds.{Declared, message_of, written_label, node_sort, bounds_of, is_node_term, between}
 use Rattle.dl_sequent.specs.Grounds.{IsGrounded, IsOwn}
-use Rattle.dl_sequent.proofs.Bounded.{bounds-sound, node-term-sound, message-stands, found-is}
+use Rattle.dl_sequent.proofs.Bounded.{bounds-sound, node-term-sound, message-stands}
 use Rattle.dl_kernel.specs.declared.parts.Two.{Two}
 use Rattle.dl_kernel.specs.declared.parts.Equation.{Equation}
 use Rattle.dl_kernel.specs.declared.parts.Quantified.{Quantified}
 use Rattle.dl_kernel.specs.declared.parts.Quantified.TheVariants.{Nodes, Messages}
-use Rattle.dl_kernel.specs.Parts.{is_true, is_false, as_equation, as_denied, as_and, as_or, as_implication, as_universal, as_existential}
+use Rattle.dl_kernel.specs.Parts.{as_equation, as_denied, as_and, as_or, as_implication, as_universal, as_existential}
 use Rattle.dl_kernel.specs.Reduced.{reduced}
 use Rattle.dl_kernel.specs.Lines.{goal_word, uses, numbered, if_used, rows_used, refutes, denied_sides, linear_closes}
-use Rattle.dl_kernel.specs.Steps.{with_fact, with_goal, with_variable, with_message, fact_in, fact_of, part_of, one_left, closes, is_the_goal, split_goal, pick_goal, intro_goal, parts_of_fact, cases_of_fact, apply_fact, parts_of, put_node, put_message, label_number, with_new, at_new, put_in, enter, given_node, given_message, is_allowed, at_node, is_message_of, at_message as at_given, instance, target, put_fact, put_target, id_of, are_alike, are_one, put_term, put_id, rewrite_by, reduce_by, id_range, range_of, left_by, only_clean, after}
-use Rattle.dl_kernel.proofs.Says.{true-says, false-says, equation-says, denied-says, and-says, or-says, implication-says, universal-says, existential-says, universal-free, existential-free}
+use Rattle.dl_kernel.specs.Steps.{with_fact, with_goal, with_variable, with_message, fact_of, part_of, one_left, split_goal, pick_goal, intro_goal, parts_of_fact, cases_of_fact, apply_fact, parts_of, put_node, put_message, label_number, with_new, at_new, put_in, enter, given_node, given_message, is_allowed, at_node, is_message_of, at_message as at_given, instance, target, put_fact, put_target, id_of, are_alike, are_one, put_term, put_id, rewrite_by, reduce_by, id_range, range_of, left_by, only_clean, after}
+use Rattle.dl_kernel.proofs.Says.{equation-says, denied-says, and-says, or-says, implication-says, universal-says, existential-says, universal-free, existential-free}
 use Rattle.dl_kernel.proofs.ReduceLemmas.{holds-reduced}
 use Rattle.dl_kernel.proofs.ReadLemmas.{holds-message_put}
-
--- everything that is left is valid
-abbrev pub AllValid : Instances → ℕ → Option (List Sequent) → Type 0
-AllValid inst own None = ⊥
-AllValid inst own (Some ss) = Each (λ s. IsValidAt inst s own) ss
-
-by_case : (b : Bool) (P : Type 0) → (b ≡ true → P) → (b ≡ false → P) → P
-by_case true P f g = f refl
-by_case false P f g = g refl
-
-or-either : (a b : Bool) (P : Type 0) → (a || b) ≡ true → (a ≡ true → P) → (b ≡ true → P) → P
-or-either true b P h f g = f refl
-or-either false b P h f g = g h
-
-and-left : (a b : Bool) → (a && b) ≡ true → a ≡ true
-and-left true b h = refl
-and-left false b h = cc
-
-and-right : (a b : Bool) → (a && b) ≡ true → b ≡ true
-and-right true b h = h
-and-right false b h = cc
-
-of-not : (a : Bool) → not a ≡ true → a ≡ false
-of-not true h = cc
-of-not false h = refl
-
-not-of : (a : Bool) → a ≡ false → not a ≡ true
-not-of true h = cc
-not-of false h = refl
-
-or-false : (a b : Bool) → (a || b) ≡ false → (a ≡ false) × (b ≡ false)
-or-false true b h = cc
-or-false false b h = (refl, h)
-
-clash : (b : Bool) (P : Type 0) → b ≡ true → b ≡ false → P
-clash true P h k = cc
-clash false P h k = cc
-
-or-true : (b : Bool) → (b || true) ≡ true
-or-true true = refl
-or-true false = refl
-
-each-push : {X : Type 0} (P : X → Type 0) (xs : List X) (x : X) → Each P xs → P x → Each P (xs ++ x ∷ [])
-each-push P [] x h k = (k, tt)
-each-push P (y ∷ ys) x h k = (h.0, each-push P ys x h.1 k)
-
-goal-fits : (s : Sequent) (f : Formula) (own : ℕ) (state : State) (names : Names) → Fits s own state names → Fits (with_goal s f) own state names
-goal-fits s f own state names h = record { own_label = h.own_label; variables = h.variables; messages = h.messages }
-
-fact-fits : (s : Sequent) (name : ℕ) (f : Formula) (own : ℕ) (state : State) (names : Names) → Fits s own state names → Fits (with_fact s name f) own state names
-fact-fits s name f own state names h = record { own_label = h.own_label; variables = h.variables; messages = h.messages }
-
-push-fact : (s : Sequent) (state : State) (names : Names) (name : ℕ) (f : Formula) → FactsHold s.facts names state → holds f names state ≡ true → FactsHold (with_fact s name f).facts names state
-push-fact s state names name f all this = each-push (λ (h : Hypothesis). holds h.formula names state ≡ true) s.facts (record { name = name; formula = f }) all this
-
-then-found : {X Y : Type 0} (o : Option X) (f : X → Option Y) (y : Y) → option_and_then f o ≡ Some y → (x : X) × (o ≡ Some x) × (f x ≡ Some y)
-then-found (Some x) f y h = (x, refl, h)
-then-found None f y h = cc
-
-map-found : {X Y : Type 0} (o : Option X) (f : X → Y) (y : Y) → option_map f o ≡ Some y → (x : X) × (o ≡ Some x) × (f x ≡ y)
-map-found (Some x) f y h = let is : f x ≡ y = cc in (x, refl, is)
-map-found None f y h = cc
-
--- what is said of all hypotheses is said of a named one
-fact-is : (facts : List Hypothesis) (name : ℕ) (f : Formula) (P : Formula → Type 0) → fact_in facts name ≡ Some f → Each (λ (h : Hypothesis). P h.formula) facts → P f
-fact-is facts name f P e all =
-    let h = map-found (find (λ (h : Hypothesis). h.name == name) facts) (λ (h : Hypothesis). h.formula) f e in
-    subst P h.2 (found-is (λ (h : Hypothesis). h.name == name) (λ (h : Hypothesis). P h.formula) facts h.0 h.1 all).1
-
-fact-true : (facts : List Hypothesis) (name : ℕ) (f : Formula) (state : State) (names : Names) → fact_in facts name ≡ Some f → FactsHold facts names state → holds f names state ≡ true
-fact-true facts name f state names e all = fact-is facts name f (λ g. holds g names state ≡ true) e all
-
-closed : (inst : Instances) (own : ℕ) (test : Bool) → AllValid inst own (closes test) → test ≡ true
-closed inst own true h = refl
-closed inst own false h = absurd h
-
-by-sound : (inst : Instances) (s : Sequent) (own hyp : ℕ) → is_the_goal (fact_of s hyp) s.goal ≡ true → IsValidAt inst s own
-by-sound inst s own hyp h state names sorted fits facts = by_fact (fact_of s hyp) refl h
-  where
-    by_fact : (o : Option Formula) → fact_of s hyp ≡ o → is_the_goal o s.goal ≡ true → holds s.goal names state ≡ true
-    by_fact None e h = cc
-    by_fact (Some f) e h = subst (λ g. holds g names state ≡ true) (formula-is f s.goal h) (fact-true s.facts hyp f state names e facts)
-
-some-false : (facts : List Hypothesis) (state : State) (names : Names) → list_any (λ (h : Hypothesis). is_false h.formula) facts ≡ true → FactsHold facts names state → ⊥
-some-false [] state names h all = cc
-some-false (f ∷ fs) state names h all =
-    or-either (is_false f.formula) (list_any (λ (h : Hypothesis). is_false h.formula) fs) ⊥ h
-    (λ e. clash (holds f.formula names state) ⊥ all.0 (false-says f.formula names state e))
-    (λ e. some-false fs state names e all.1)
-
-close-sound : (inst : Instances) (s : Sequent) (own : ℕ) → (is_true s.goal || list_any (λ (h : Hypothesis). is_false h.formula) s.facts) ≡ true → IsValidAt inst s own
-close-sound inst s own h state names sorted fits facts =
-    or-either _ _ _ h (λ e. true-says s.goal names state e) (λ e. absurd (some-false s.facts state names e facts))
+use Rattle.dl_kernel.proofs.SoundLemmas.{AllValid, by_case, or-either, and-left, and-right, of-not, not-of, or-false, clash, or-true, each-push, goal-fits, fact-fits, push-fact, then-found, map-found, fact-is, fact-true, closed, by-sound, close-sound}
 
 module _ (inst : Instances) (own : ℕ) where
   abbrev V : Sequent → Type 0

@@ -1,13 +1,11 @@
 -- What the parts of the test of a file find out. Only the crate's private clauses cite it.
-use Rattle.std.specs.Prelude.{◌≡◌, Bool, true, false, pos, List, map, codes}
+use Rattle.std.specs.Prelude.{◌≡◌, true, pos, List, map, codes}
 use Rattle.dl_tree.specs.declared.tree.Tree.{Tree}
 use Rattle.dl_model.specs.Words.{first_name}
 use Rattle.dl_forms.specs.Table.{NameTable}
 use Rattle.dl_forms.specs.Show.{bare, form, symbol, number}
 use Rattle.dl_notation.specs.Trees.{parts_of}
 use Rattle.dl_notation.specs.Environment.{Environment}
-use Rattle.dl_sequent.specs.declared.duty.Duty.{Duty}
-use Rattle.dl_sequent.specs.declared.duty.Duty.TheVariants as duty
 use Rattle.dl_file.specs.declared.file.Item.{Item}
 use Rattle.dl_file.specs.declared.file.File.{File}
 use Rattle.dl_shown.specs.Shown.{nodes_from}
@@ -16,15 +14,6 @@ use Rattle.dl_means.specs.Flat.{flat, flat_item, flat_items}
 use Rattle.dl_means.specs.Says.{says_item}
 use Rattle.dl_means.specs.Stands.{item_stands}
 use Rattle.dl_means.specs.Means.{fit_items, fit_parts}
-
--- an obligation of no procedure
-abbrev pub is_free : Duty → Bool
-is_free (duty.InitProtocol protocol) = true
-is_free (duty.InitInvariant invariant) = true
-is_free (duty.StepProtocol protocol tag receive) = true
-is_free (duty.StepInvariant invariant label tag receive) = true
-is_free (duty.Deploy node) = true
-is_free _ = false
 
 -- an item against its tree
 pub record ItemFits (names : NameTable) (file : File) (env : Environment) (tree : Tree) (item : Item) : Type 0 where

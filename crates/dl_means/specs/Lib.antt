@@ -3,7 +3,9 @@ pub mod Flat
 pub mod Points
 pub mod Says
 pub mod Stands
+pub mod Known
 pub mod Means
 pub mod Seen
 pub mod Facts
+pub mod Flags
 pub mod Examples

@@ -5,12 +5,15 @@
 #![tactic(auto)]
 
 mod before;
+mod commands;
 mod flat;
 mod laws;
+mod points;
 mod says;
 mod stands;
 mod told;
 mod trees;
+mod words;
 mod worlds;
 
 pub use laws::meaning_computes;

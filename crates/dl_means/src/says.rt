@@ -1,178 +1,185 @@
 //! Which names stand for constants.
 
-ghost use Rattle.std.specs.Prelude.{◌≡◌, true, slice_get};
+ghost use Rattle.std.specs.Prelude.{◌≡◌, slice_get};
 ghost use Rattle.std.specs.List.{list_all};
 ghost use Rattle.dl_term.specs.declared.syntax.Term.{Word, Var};
 ghost use Rattle.dl_model.specs.declared.protocol.FieldDecl.{FieldDecl as Field};
 ghost use Rattle.dl_model.specs.declared.protocol.Hook.{Hook as HookDecl};
 ghost use Rattle.dl_model.specs.declared.file.Invariant.{Invariant as InvariantDecl};
-ghost use Rattle.dl_means.specs.Facts.{is_free};
-ghost use Rattle.dl_means.specs.Says.{of_some, value_named as named_value, says_term as term_says, says as formula_says, says_update as update_says, says_transition as transition_says, says_tag as tag_says, says_protocol as protocol_says, is_variable as is_variable_term, says_given as given_says, says_rule, says_proof as proof_says, says_kind as kind_says, says_item as item_says};
+ghost use Rattle.dl_notation.specs.Rules.{other_words};
+ghost use Rattle.dl_means.specs.Flags.{flags_of_all};
+ghost use Rattle.dl_means.specs.Known.{words_of};
+ghost use Rattle.dl_means.specs.Says.{of_some, value_named as named_value, says_term as term_says, says as formula_says, says_update as update_says, says_transition as transition_says, says_tag as tag_says, says_protocol as protocol_says, is_variable as is_variable_term, says_given as given_says, says_rule, says_proc as proc_says, proc_in, variables_in, says_proof as proof_says, says_kind as kind_says, says_item as item_says};
 
 use crate::before::Declared;
+use crate::commands::says_proc;
+use crate::points::fits_point;
+use crate::words::{Words, all_words, words_in};
 use dl_file::{File, Item, ItemKind, Proof};
 use dl_forms::Names;
-use dl_model::{Decls, FieldDecl, Protocol, Tag, Transition, Update};
+use dl_model::{Decls, FieldDecl, Proc, Protocol, Tag, Transition, Update};
 use dl_sequent::{Duty, Given, Rule, Script};
 use dl_term::{Formula, Term};
+use sqlite_items::Items;
 
 /// The value of a name that is a constant.
-fn value_named(names: &Names, env: &Declared, sym: u32) -> Option<i64>
-    ensures { result ≡ named_value names.now env.now.words sym }
+fn value_named(names: &Names, words: &Words, sym: u32) -> Option<i64>
+    ensures { result ≡ named_value names.now (words_of words.now) sym }
 {
     match names.text(sym) {
-        Some(text) => env.word(text),
+        Some(text) => words.value(text),
         None => None,
     }
 }
 
-fn is_word(names: &Names, env: &Declared, sym: u32, value: i64) -> bool
-    ensures { result ≡ term_says names.now env.now.words (Word sym value) }
+fn is_word(names: &Names, words: &Words, sym: u32, value: i64) -> bool
+    ensures { result ≡ term_says names.now (words_of words.now) (Word sym value) }
 {
-    match value_named(names, env, sym) {
+    match value_named(names, words, sym) {
         Some(named) => value == named,
         None => false,
     }
 }
 
-fn is_no_word(names: &Names, env: &Declared, sym: u32) -> bool
-    ensures { result ≡ term_says names.now env.now.words (Var sym) }
+fn is_no_word(names: &Names, words: &Words, sym: u32) -> bool
+    ensures { result ≡ term_says names.now (words_of words.now) (Var sym) }
 {
-    value_named(names, env, sym).is_none()
+    value_named(names, words, sym).is_none()
 }
 
 #[tactic(auto, unfolding(dl_term::specs::Syntax::opened))]
-pub(crate) fn says_term(names: &Names, env: &Declared, term: &Term) -> bool
-    ensures { result ≡ term_says names.now env.now.words term.now }
+pub(crate) fn says_term(names: &Names, words: &Words, term: &Term) -> bool
+    ensures { result ≡ term_says names.now (words_of words.now) term.now }
 {
     match term {
         Term::Num(_) => true,
-        Term::Word { sym, value } => is_word(names, env, *sym, *value),
-        Term::Var(sym) => is_no_word(names, env, *sym),
-        Term::Field { node, .. } => says_term(names, env, node.get()),
+        Term::Word { sym, value } => is_word(names, words, *sym, *value),
+        Term::Var(sym) => is_no_word(names, words, *sym),
+        Term::Field { node, .. } => says_term(names, words, node.get()),
         Term::Row { node, index, .. } => {
-            says_term(names, env, node.get()) && says_term(names, env, index.get())
+            says_term(names, words, node.get()) && says_term(names, words, index.get())
         }
         Term::Len(_) => true,
         Term::Msg { .. } => true,
-        Term::Add(a, b) => says_term(names, env, a.get()) && says_term(names, env, b.get()),
-        Term::Sub(a, b) => says_term(names, env, a.get()) && says_term(names, env, b.get()),
-        Term::Mul(a, b) => says_term(names, env, a.get()) && says_term(names, env, b.get()),
+        Term::Add(a, b) => says_term(names, words, a.get()) && says_term(names, words, b.get()),
+        Term::Sub(a, b) => says_term(names, words, a.get()) && says_term(names, words, b.get()),
+        Term::Mul(a, b) => says_term(names, words, a.get()) && says_term(names, words, b.get()),
         Term::If(a, b, x, y) => {
-            let compared = says_term(names, env, a.get()) && says_term(names, env, b.get());
-            let chosen = says_term(names, env, x.get()) && says_term(names, env, y.get());
+            let compared = says_term(names, words, a.get()) && says_term(names, words, b.get());
+            let chosen = says_term(names, words, x.get()) && says_term(names, words, y.get());
             compared && chosen
         }
     }
 }
 
 #[tactic(auto, unfolding(dl_term::specs::Syntax::opened))]
-pub(crate) fn says(names: &Names, env: &Declared, formula: &Formula) -> bool
-    ensures { result ≡ formula_says names.now env.now.words formula.now }
+pub(crate) fn says(names: &Names, words: &Words, formula: &Formula) -> bool
+    ensures { result ≡ formula_says names.now (words_of words.now) formula.now }
 {
     match formula {
         Formula::True => true,
         Formula::False => true,
-        Formula::Eq(a, b) => says_term(names, env, a) && says_term(names, env, b),
-        Formula::Lt(a, b) => says_term(names, env, a) && says_term(names, env, b),
-        Formula::Le(a, b) => says_term(names, env, a) && says_term(names, env, b),
-        Formula::Not(of) => says(names, env, of.get()),
-        Formula::And(a, b) => says(names, env, a.get()) && says(names, env, b.get()),
-        Formula::Or(a, b) => says(names, env, a.get()) && says(names, env, b.get()),
-        Formula::Implies(a, b) => says(names, env, a.get()) && says(names, env, b.get()),
-        Formula::All { body, .. } => says(names, env, body.get()),
-        Formula::Exists { body, .. } => says(names, env, body.get()),
-        Formula::Each { body, .. } => says(names, env, body.get()),
-        Formula::Any { body, .. } => says(names, env, body.get()),
+        Formula::Eq(a, b) => says_term(names, words, a) && says_term(names, words, b),
+        Formula::Lt(a, b) => says_term(names, words, a) && says_term(names, words, b),
+        Formula::Le(a, b) => says_term(names, words, a) && says_term(names, words, b),
+        Formula::Not(of) => says(names, words, of.get()),
+        Formula::And(a, b) => says(names, words, a.get()) && says(names, words, b.get()),
+        Formula::Or(a, b) => says(names, words, a.get()) && says(names, words, b.get()),
+        Formula::Implies(a, b) => says(names, words, a.get()) && says(names, words, b.get()),
+        Formula::All { body, .. } => says(names, words, body.get()),
+        Formula::Exists { body, .. } => says(names, words, body.get()),
+        Formula::Each { body, .. } => says(names, words, body.get()),
+        Formula::Any { body, .. } => says(names, words, body.get()),
     }
 }
 
 // ---- declarations
 
-fn says_index(names: &Names, env: &Declared, index: &Option<Term>) -> bool
-    ensures { result ≡ of_some (term_says names.now env.now.words) index.now }
+pub(crate) fn says_index(names: &Names, words: &Words, index: &Option<Term>) -> bool
+    ensures { result ≡ of_some (term_says names.now (words_of words.now)) index.now }
 {
     match index {
-        Some(index) => says_term(names, env, index),
+        Some(index) => says_term(names, words, index),
         None => true,
     }
 }
 
-fn says_update(names: &Names, env: &Declared, update: &Update) -> bool
-    ensures { result ≡ update_says names.now env.now.words update.now }
+fn says_update(names: &Names, words: &Words, update: &Update) -> bool
+    ensures { result ≡ update_says names.now (words_of words.now) update.now }
 {
-    says_index(names, env, &update.index) && says_term(names, env, &update.value)
+    says_index(names, words, &update.index) && says_term(names, words, &update.value)
 }
 
-fn says_updates(names: &Names, env: &Declared, updates: &[Update]) -> bool
-    ensures { result ≡ list_all (update_says names.now env.now.words) updates.now }
+fn says_updates(names: &Names, words: &Words, updates: &[Update]) -> bool
+    ensures { result ≡ list_all (update_says names.now (words_of words.now)) updates.now }
 {
     for update in updates {
-        if !says_update(names, env, update) {
+        if !says_update(names, words, update) {
             return false;
         }
     }
     true
 }
 
-fn says_transition(names: &Names, env: &Declared, transition: &Transition) -> bool
-    ensures { result ≡ transition_says names.now env.now.words transition.now }
+fn says_transition(names: &Names, words: &Words, transition: &Transition) -> bool
+    ensures { result ≡ transition_says names.now (words_of words.now) transition.now }
 {
-    says(names, env, &transition.guard) && says_updates(names, env, transition.updates.as_slice())
+    says(names, words, &transition.guard)
+        && says_updates(names, words, transition.updates.as_slice())
 }
 
-fn says_receive(names: &Names, env: &Declared, receive: &Option<Transition>) -> bool
-    ensures { result ≡ of_some (transition_says names.now env.now.words) receive.now }
+fn says_receive(names: &Names, words: &Words, receive: &Option<Transition>) -> bool
+    ensures { result ≡ of_some (transition_says names.now (words_of words.now)) receive.now }
 {
     match receive {
-        Some(receive) => says_transition(names, env, receive),
+        Some(receive) => says_transition(names, words, receive),
         None => true,
     }
 }
 
-fn says_tag(names: &Names, env: &Declared, tag: &Tag) -> bool
-    ensures { result ≡ tag_says names.now env.now.words tag.now }
+fn says_tag(names: &Names, words: &Words, tag: &Tag) -> bool
+    ensures { result ≡ tag_says names.now (words_of words.now) tag.now }
 {
-    says_transition(names, env, &tag.send) && says_receive(names, env, &tag.receive)
+    says_transition(names, words, &tag.send) && says_receive(names, words, &tag.receive)
 }
 
-fn says_tags(names: &Names, env: &Declared, tags: &[Tag]) -> bool
-    ensures { result ≡ list_all (tag_says names.now env.now.words) tags.now }
+fn says_tags(names: &Names, words: &Words, tags: &[Tag]) -> bool
+    ensures { result ≡ list_all (tag_says names.now (words_of words.now)) tags.now }
 {
     for tag in tags {
-        if !says_tag(names, env, tag) {
+        if !says_tag(names, words, tag) {
             return false;
         }
     }
     true
 }
 
-fn says_fields(names: &Names, env: &Declared, fields: &[FieldDecl]) -> bool
-    ensures { result ≡ list_all (λ (field : Field). term_says names.now env.now.words field.first) fields.now }
+fn says_fields(names: &Names, words: &Words, fields: &[FieldDecl]) -> bool
+    ensures { result ≡ list_all (λ (field : Field). term_says names.now (words_of words.now) field.first) fields.now }
 {
     for field in fields {
-        if !says_term(names, env, &field.first) {
+        if !says_term(names, words, &field.first) {
             return false;
         }
     }
     true
 }
 
-fn says_coherence(names: &Names, env: &Declared, coherence: &Option<Formula>) -> bool
-    ensures { result ≡ of_some (formula_says names.now env.now.words) coherence.now }
+fn says_coherence(names: &Names, words: &Words, coherence: &Option<Formula>) -> bool
+    ensures { result ≡ of_some (formula_says names.now (words_of words.now)) coherence.now }
 {
     match coherence {
-        Some(coherence) => says(names, env, coherence),
+        Some(coherence) => says(names, words, coherence),
         None => true,
     }
 }
 
-fn says_protocol(names: &Names, env: &Declared, protocol: &Protocol) -> bool
-    ensures { result ≡ protocol_says names.now env.now.words protocol.now }
+fn says_protocol(names: &Names, words: &Words, protocol: &Protocol) -> bool
+    ensures { result ≡ protocol_says names.now (words_of words.now) protocol.now }
 {
-    let fields = says_fields(names, env, protocol.fields.as_slice());
-    let tags = says_tags(names, env, protocol.tags.as_slice());
-    fields && (tags && says_coherence(names, env, &protocol.coherence))
+    let fields = says_fields(names, words, protocol.fields.as_slice());
+    let tags = says_tags(names, words, protocol.tags.as_slice());
+    fields && (tags && says_coherence(names, words, &protocol.coherence))
 }
 
 // ---- scripts
@@ -196,32 +203,32 @@ fn is_variable(term: &Term) -> bool
     }
 }
 
-fn says_given(names: &Names, env: &Declared, what: &Given) -> bool
-    ensures { result ≡ given_says names.now env.now.words what.now }
+fn says_given(names: &Names, words: &Words, what: &Given) -> bool
+    ensures { result ≡ given_says names.now (words_of words.now) what.now }
 {
     match what {
-        Given::Node(term) => !is_variable(term) && says_term(names, env, term),
-        Given::Message(msg) => is_no_word(names, env, *msg),
+        Given::Node(term) => !is_variable(term) && says_term(names, words, term),
+        Given::Message(msg) => is_no_word(names, words, *msg),
     }
 }
 
 /// Of a script with two sub-scripts, or with none. The others come after it.
 #[tactic(auto, unfolding(dl_shown::specs::Opened::scripts))]
-fn says_script(names: &Names, env: &Declared, script: &Script) -> bool
-    ensures { result ≡ says_rule names.now env.now.words script.now.rule }
+fn says_script(names: &Names, words: &Words, script: &Script) -> bool
+    ensures { result ≡ says_rule names.now (words_of words.now) script.now.rule }
 {
     match &script.rule {
         Rule::By { .. } => true,
         Rule::Close => true,
         Rule::Linear { .. } => true,
         Rule::Split { left, right } => {
-            says_script(names, env, left.get()) && says_script(names, env, right.get())
+            says_script(names, words, left.get()) && says_script(names, words, right.get())
         }
         Rule::Cases { left, right, .. } => {
-            says_script(names, env, left.get()) && says_script(names, env, right.get())
+            says_script(names, words, left.get()) && says_script(names, words, right.get())
         }
         Rule::Apply { first, then, .. } => {
-            says_script(names, env, first.get()) && says_script(names, env, then.get())
+            says_script(names, words, first.get()) && says_script(names, words, then.get())
         }
         Rule::Have {
             formula,
@@ -229,9 +236,9 @@ fn says_script(names: &Names, env: &Declared, script: &Script) -> bool
             then,
             ..
         } => {
-            let scripts = says_script(names, env, first.get())
-                && says_script(names, env, then.get());
-            says(names, env, formula) && scripts
+            let scripts = says_script(names, words, first.get())
+                && says_script(names, words, then.get());
+            says(names, words, formula) && scripts
         }
         Rule::Decide {
             formula,
@@ -239,67 +246,114 @@ fn says_script(names: &Names, env: &Declared, script: &Script) -> bool
             no,
             ..
         } => {
-            let scripts = says_script(names, env, yes.get()) && says_script(names, env, no.get());
-            says(names, env, formula) && scripts
+            let scripts = says_script(names, words, yes.get())
+                && says_script(names, words, no.get());
+            says(names, words, formula) && scripts
         }
-        Rule::Pick { then, .. } => says_script(names, env, then.get()),
-        Rule::Intro { then, .. } => says_script(names, env, then.get()),
-        Rule::Open { then, .. } => says_script(names, env, then.get()),
+        Rule::Pick { then, .. } => says_script(names, words, then.get()),
+        Rule::Intro { then, .. } => says_script(names, words, then.get()),
+        Rule::Open { then, .. } => says_script(names, words, then.get()),
         Rule::Give { what, then } => {
-            says_given(names, env, what) && says_script(names, env, then.get())
+            says_given(names, words, what) && says_script(names, words, then.get())
         }
-        Rule::Parts { then, .. } => says_script(names, env, then.get()),
+        Rule::Parts { then, .. } => says_script(names, words, then.get()),
         Rule::Inst { what, then, .. } => {
-            says_given(names, env, what) && says_script(names, env, then.get())
+            says_given(names, words, what) && says_script(names, words, then.get())
         }
-        Rule::Unpack { then, .. } => says_script(names, env, then.get()),
-        Rule::Rewrite { then, .. } => says_script(names, env, then.get()),
-        Rule::Reduce { then, .. } => says_script(names, env, then.get()),
+        Rule::Unpack { then, .. } => says_script(names, words, then.get()),
+        Rule::Rewrite { then, .. } => says_script(names, words, then.get()),
+        Rule::Reduce { then, .. } => says_script(names, words, then.get()),
         Rule::Range { term, then, .. } => {
-            says_term(names, env, term) && says_script(names, env, then.get())
+            says_term(names, words, term) && says_script(names, words, then.get())
         }
     }
 }
 
-/// Whether the obligation is of no procedure.
-fn is_of_no_procedure(duty: Duty) -> bool
-    ensures { result ≡ is_free duty }
+/// The procedure that an obligation is of.
+fn procedure_in(duty: Duty) -> Option<u8>
+    ensures { result ≡ proc_in duty }
 {
     match duty {
-        Duty::InitProtocol { .. } => true,
-        Duty::InitInvariant { .. } => true,
-        Duty::StepProtocol { .. } => true,
-        Duty::StepInvariant { .. } => true,
-        Duty::Start { .. } => false,
-        Duty::Guard { .. } => false,
-        Duty::AfterSend { .. } => false,
-        Duty::Got { .. } => false,
-        Duty::Miss { .. } => false,
-        Duty::AfterRead { .. } => false,
-        Duty::Body { .. } => false,
-        Duty::Exit { .. } => false,
-        Duty::Enter { .. } => false,
-        Duty::Leave { .. } => false,
-        Duty::Stable { .. } => false,
-        Duty::Frame { .. } => false,
-        Duty::Deploy { .. } => true,
+        Duty::InitProtocol { .. } => None,
+        Duty::InitInvariant { .. } => None,
+        Duty::StepProtocol { .. } => None,
+        Duty::StepInvariant { .. } => None,
+        Duty::Start { proc } => Some(proc),
+        Duty::Guard { proc, .. } => Some(proc),
+        Duty::AfterSend { proc, .. } => Some(proc),
+        Duty::Got { proc, .. } => Some(proc),
+        Duty::Miss { proc, .. } => Some(proc),
+        Duty::AfterRead { proc, .. } => Some(proc),
+        Duty::Body { proc, .. } => Some(proc),
+        Duty::Exit { proc, .. } => Some(proc),
+        Duty::Enter { proc, .. } => Some(proc),
+        Duty::Leave { proc, .. } => Some(proc),
+        Duty::Stable { proc, .. } => Some(proc),
+        Duty::Frame { proc, .. } => Some(proc),
+        Duty::Deploy { .. } => None,
     }
 }
 
-/// Of a proof. It answers false for an obligation of a procedure, which isn't looked at yet.
-fn says_proof(names: &Names, env: &Declared, decls: &Decls, proof: &Proof) -> bool
-    ensures { result ≡ true → proof_says names.now env.now decls.now proof.now ≡ true }
+/// Of a script, by the constants that are known in an obligation of this procedure, or of none.
+fn says_script_in(
+    names: &Names,
+    env: &Declared,
+    decls: &Decls,
+    proc: Option<u8>,
+    script: &Script,
+) -> bool
+    ensures { result ≡ says_rule names.now (other_words (variables_in names.now decls.now proc) env.now.words) script.now.rule }
 {
-    is_of_no_procedure(proof.duty) && says_script(names, env, &proof.script)
+    let words = words_in(names, env, decls, proc);
+    says_script(names, &words, script)
+}
+
+/// Of a proof. `points` has the points of each procedure.
+fn says_proof(
+    names: &Names,
+    env: &Declared,
+    decls: &Decls,
+    points: &[Items<bool>],
+    proof: &Proof,
+) -> bool
+    requires { points.now ≡ flags_of_all decls.now.procs }
+    ensures { result ≡ proof_says names.now env.now decls.now proof.now }
+{
+    let proc = procedure_in(proof.duty);
+    fits_point(points, proof.duty) && says_script_in(names, env, decls, proc, &proof.script)
 }
 
 // ---- items
+
+/// Of a protocol, by all constants that are declared before its item.
+fn says_protocol_before(names: &Names, env: &Declared, protocol: &Protocol) -> bool
+    ensures { result ≡ protocol_says names.now env.now.words protocol.now }
+{
+    let words = all_words(names, env);
+    says_protocol(names, &words, protocol)
+}
+
+/// The same of a formula.
+fn says_before(names: &Names, env: &Declared, formula: &Formula) -> bool
+    ensures { result ≡ formula_says names.now env.now.words formula.now }
+{
+    let words = all_words(names, env);
+    says(names, &words, formula)
+}
+
+/// The same of a procedure.
+fn says_proc_before(names: &Names, env: &Declared, proc: &Proc) -> bool
+    ensures { result ≡ proc_says names.now env.now.words proc.now }
+{
+    let words = all_words(names, env);
+    says_proc(names, &words, proc)
+}
 
 fn says_protocol_at(names: &Names, env: &Declared, file: &File, at: usize) -> bool
     ensures { result ≡ of_some (protocol_says names.now env.now.words) (slice_get file.now.decls.inst.protocols at) }
 {
     match file.decls.inst.protocols.get(at) {
-        Some(protocol) => says_protocol(names, env, protocol),
+        Some(protocol) => says_protocol_before(names, env, protocol),
         None => true,
     }
 }
@@ -308,7 +362,7 @@ fn says_hook_at(names: &Names, env: &Declared, file: &File, at: usize) -> bool
     ensures { result ≡ of_some (λ (hook : HookDecl). formula_says names.now env.now.words hook.formula) (slice_get file.now.decls.hooks at) }
 {
     match file.decls.hooks.get(at) {
-        Some(hook) => says(names, env, &hook.formula),
+        Some(hook) => says_before(names, env, &hook.formula),
         None => true,
     }
 }
@@ -317,24 +371,47 @@ fn says_invariant_at(names: &Names, env: &Declared, file: &File, at: usize) -> b
     ensures { result ≡ of_some (λ (invariant : InvariantDecl). formula_says names.now env.now.words invariant.formula) (slice_get file.now.decls.invariants at) }
 {
     match file.decls.invariants.get(at) {
-        Some(invariant) => says(names, env, &invariant.formula),
+        Some(invariant) => says_before(names, env, &invariant.formula),
         None => true,
     }
 }
 
-fn says_proof_at(names: &Names, env: &Declared, file: &File, at: usize) -> bool
-    ensures { result ≡ true → of_some (proof_says names.now env.now file.now.decls) (slice_get file.now.proofs at) ≡ true }
+fn says_procedure_at(names: &Names, env: &Declared, file: &File, at: usize) -> bool
+    ensures { result ≡ of_some (proc_says names.now env.now.words) (slice_get file.now.decls.procs at) }
+{
+    match file.decls.procs.get(at) {
+        Some(proc) => says_proc_before(names, env, proc),
+        None => true,
+    }
+}
+
+fn says_proof_at(
+    names: &Names,
+    env: &Declared,
+    file: &File,
+    points: &[Items<bool>],
+    at: usize,
+) -> bool
+    requires { points.now ≡ flags_of_all file.now.decls.procs }
+    ensures { result ≡ of_some (proof_says names.now env.now file.now.decls) (slice_get file.now.proofs at) }
 {
     match file.proofs.get(at) {
-        Some(proof) => says_proof(names, env, &file.decls, proof),
+        Some(proof) => says_proof(names, env, &file.decls, points, proof),
         None => true,
     }
 }
 
-/// Whether the names of an item stand for constants exactly where those are declared before it. It answers false for a
-/// procedure and for proofs of its obligations, which aren't looked at yet.
-pub(crate) fn says_item(names: &Names, env: &Declared, file: &File, item: &Item) -> bool
-    ensures { result ≡ true → item_says names.now env.now file.now item.now ≡ true }
+/// Whether the names of an item stand for constants exactly where those are declared before it. `points` has the points
+/// of each procedure of the file.
+pub(crate) fn says_item(
+    names: &Names,
+    env: &Declared,
+    file: &File,
+    points: &[Items<bool>],
+    item: &Item,
+) -> bool
+    requires { points.now ≡ flags_of_all file.now.decls.procs }
+    ensures { result ≡ item_says names.now env.now file.now item.now }
 {
     let at = item.at as usize;
     match item.kind {
@@ -344,8 +421,8 @@ pub(crate) fn says_item(names: &Names, env: &Declared, file: &File, item: &Item)
         ItemKind::Hook => says_hook_at(names, env, file, at),
         ItemKind::World => true,
         ItemKind::Invariant => says_invariant_at(names, env, file, at),
-        ItemKind::Procedure => false,
+        ItemKind::Procedure => says_procedure_at(names, env, file, at),
         ItemKind::Deploy => true,
-        ItemKind::Proof => says_proof_at(names, env, file, at),
+        ItemKind::Proof => says_proof_at(names, env, file, points, at),
     }
 }

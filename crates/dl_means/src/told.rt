@@ -8,12 +8,14 @@ ghost use Rattle.dl_shown.specs.Shown.{nodes_from};
 ghost use Rattle.dl_means.specs.Stands.{AreListed};
 ghost use Rattle.dl_means.specs.Means.{Means, texts_in};
 ghost use Rattle.dl_means.specs.Facts.{ItemFits, ItemsFit, Begins, IsWritten};
+ghost use Rattle.dl_means.specs.Flags.{flags_of_all};
 ghost use Rattle.dl_means.specs.Flat.{flat_item};
 ghost use Rattle.dl_shown.specs.Whole.{item_of};
 ghost use Rattle.dl_means.specs.Before.{at_first};
 
 use crate::before::Declared;
 use crate::flat;
+use crate::points::points_of_all;
 use crate::says::says_item;
 use crate::stands::{are_numbered, count_of, item_stands, sorts_fit};
 use crate::trees::{bare_tree, parts_of, same_tree};
@@ -22,6 +24,7 @@ use dl_forms::Names;
 use dl_notation::{ListRole, number_list};
 use dl_shown::{number, show_item_of, show_nodes, symbol};
 use dl_tree::{Name, Tree};
+use sqlite_items::Items;
 use std::alloc::{AllocError, Global};
 
 // ---- names
@@ -104,21 +107,23 @@ fn item_agrees(
     answer
 }
 
-/// Whether an item is what its tree means.
+/// Whether an item is what its tree means. `points` has the points of each procedure of the file.
 fn item_fits(
     alloc: Global,
     names: &Names,
     env: &Declared,
     file: &File,
+    points: &[Items<bool>],
     item: &Item,
     tree: &Tree,
 ) -> Result<bool, AllocError>
+    requires { points.now ≡ flags_of_all file.now.decls.procs }
     ensures { IfOk result (λ fits. fits ≡ true → ItemFits names.now file.now env.now tree.now item.now) }
 {
     if !item_agrees(alloc, names, env, file, item, tree)? {
         return Ok(false);
     }
-    Ok(says_item(names, env, file, item) && item_stands(file, item, tree))
+    Ok(says_item(names, env, file, points, item) && item_stands(file, item, tree))
 }
 
 /// Whether each item is what its tree means, by what stands before it.
@@ -127,9 +132,11 @@ fn items_fit(
     names: &Names,
     env: &mut Declared,
     file: &File,
+    points: &[Items<bool>],
     items: &[Item],
     trees: &[Tree],
 ) -> Result<bool, AllocError>
+    requires { points.now ≡ flags_of_all file.now.decls.procs }
     ensures { IfOk result (λ fit. fit ≡ true → ItemsFit names.now file.now env.old trees.now items.now) }
 {
     if items.len() != trees.len() {
@@ -137,7 +144,7 @@ fn items_fit(
     }
     for i in 0..items.len() {
         let tree = &trees[i];
-        if !item_fits(alloc, names, env, file, &items[i], tree)? {
+        if !item_fits(alloc, names, env, file, points, &items[i], tree)? {
             return Ok(false);
         }
         if !env.pass(alloc, tree)? {
@@ -152,14 +159,17 @@ fn all_fit(
     alloc: Global,
     names: &Names,
     file: &File,
+    points: &[Items<bool>],
     nodes: &Tree,
     trees: &[Tree],
 ) -> Result<bool, AllocError>
+    requires { points.now ≡ flags_of_all file.now.decls.procs }
     ensures { IfOk result (λ fit. fit ≡ true → ItemsFit names.now file.now (at_first nodes.now) trees.now file.now.items) }
 {
     match Declared::at_first(alloc, nodes)? {
         Some(mut env) => {
-            let answer = items_fit(alloc, names, &mut env, file, file.items.as_slice(), trees);
+            let items = file.items.as_slice();
+            let answer = items_fit(alloc, names, &mut env, file, points, items, trees);
             drop(env);
             answer
         }
@@ -254,7 +264,13 @@ fn are_listed(names: &Names, file: &File) -> bool
 }
 
 /// Whether what the items show is written as the tree is.
-fn is_written(alloc: Global, names: &Names, file: &File) -> Result<bool, AllocError>
+fn is_written(
+    alloc: Global,
+    names: &Names,
+    file: &File,
+    points: &[Items<bool>],
+) -> Result<bool, AllocError>
+    requires { points.now ≡ flags_of_all file.now.decls.procs }
     ensures { IfOk result (λ is. is ≡ true → IsWritten names.now file.now) }
 {
     match parts_of(&file.tree) {
@@ -262,7 +278,7 @@ fn is_written(alloc: Global, names: &Names, file: &File) -> Result<bool, AllocEr
             if !begins(alloc, names, file, word, version, nodes)? {
                 return Ok(false);
             }
-            all_fit(alloc, names, file, nodes, trees)
+            all_fit(alloc, names, file, points, nodes, trees)
         }
         _ => Ok(false),
     }
@@ -270,8 +286,7 @@ fn is_written(alloc: Global, names: &Names, file: &File) -> Result<bool, AllocEr
 
 /// Whether the file is what its tree means. The names have the texts of the file's names and the sorts that it declares.
 ///
-/// It answers true only where it is. For a file with procedures it answers false: these aren't looked at yet. Its only
-/// error is want of memory.
+/// It answers true only where it is. Its only error is want of memory.
 pub fn tells(alloc: Global, names: &Names, file: &File) -> Result<bool, AllocError>
     ensures { IfOk result (λ tells. tells ≡ true → Means file.now.tree file.now) }
 {
@@ -288,5 +303,8 @@ pub fn tells(alloc: Global, names: &Names, file: &File) -> Result<bool, AllocErr
     if !sorts_fit(names.sorts()) {
         return Ok(false);
     }
-    is_written(alloc, names, file)
+    let points = points_of_all(alloc, file.decls.procs.as_slice())?;
+    let answer = is_written(alloc, names, file, points.as_slice());
+    drop(points);
+    answer
 }

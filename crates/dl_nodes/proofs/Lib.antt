@@ -8,3 +8,4 @@ pub mod BeginLemmas
 pub mod TraceLemmas
 pub mod Decided
 pub mod WorldLemmas
+pub mod EndedLemmas

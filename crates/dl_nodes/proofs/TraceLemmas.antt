@@ -267,7 +267,7 @@ round-come procs budget starts soup (p ∷ players) distinct h =
       round-come procs budget starts turn.soup players distinct.1 (each-other procs budget starts soup p players distinct.0 h.1),
     )
 
-round-nodes : (procs : List Proc) (budget : ℕ) (soup : Seen) (players : List Player) → nodes_in (round_of procs budget soup players).players ≡ nodes_in players
+pub round-nodes : (procs : List Proc) (budget : ℕ) (soup : Seen) (players : List Player) → nodes_in (round_of procs budget soup players).players ≡ nodes_in players
 round-nodes procs budget soup [] = refl
 round-nodes procs budget soup (p ∷ players) = λ i. turn-node procs budget soup p i ∷ round-nodes procs budget (turn_of procs budget soup p).soup players i
 

@@ -4,3 +4,4 @@ pub mod Players
 pub mod Turns
 pub mod Begun
 pub mod Traced
+pub mod Ended

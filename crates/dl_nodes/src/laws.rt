@@ -11,6 +11,7 @@ ghost use Rattle.dl_soup.specs.Kept.{IsKept};
 ghost use Rattle.dl_soup.specs.Seen.{Seen};
 ghost use Rattle.dl_nodes.specs.declared.begin.Run.{Run};
 ghost use Rattle.dl_nodes.specs.Begun.{IsSerialRun};
+ghost use Rattle.dl_nodes.specs.Ended.{HaveEnded};
 ghost use Rattle.dl_nodes.specs.Serial.{IsSerial, Player};
 ghost use Rattle.dl_nodes.specs.Traced.{IsTraced};
 
@@ -30,4 +31,9 @@ pub fn serial_runs_are_soup_runs()
 /// The serial schedule leads from a soup and its nodes to one soup, and to one place for each node.
 pub fn serial_decides()
     ensures { (procs : List Proc) (budget : ℕ) (soup : Seen) (players : List Player) (a b : Seen) (p q : List Player) → IsSerial procs budget soup players a p → IsSerial procs budget soup players b q → (a ≡ b) × (p ≡ q) }
+{}
+
+/// After the serial run of a file each node with a program is there once, in the order of the node list, and has an end.
+pub fn serial_runs_have_ended()
+    ensures { (decls : Decls) (budget : ℕ) (order : Order) (run : Run) → IsSerialRun decls budget order run → HaveEnded decls run }
 {}

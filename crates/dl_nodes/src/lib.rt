@@ -14,5 +14,7 @@ mod turn;
 pub use bare::Bare;
 pub use begin::{Run, run_serial};
 pub use dl_model::{End, Proc};
-pub use laws::{serial_decides, serial_runs_are_soup_runs, serial_runs_are_traced};
+pub use laws::{
+    serial_decides, serial_runs_are_soup_runs, serial_runs_are_traced, serial_runs_have_ended,
+};
 pub use schedule::finish;

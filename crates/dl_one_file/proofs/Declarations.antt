@@ -158,7 +158,7 @@ module _ (na nb : NameTable) (da db : Decls) (same : SameSkeleton na nb da db) (
 
   -- ---- fields
 
-  same-argument : (x y : Parameter) → argument_of na x ≡ argument_of nb y → IsPlain (argument_of na x) → x ≡ y
+  pub same-argument : (x y : Parameter) → argument_of na x ≡ argument_of nb y → IsPlain (argument_of na x) → x ≡ y
   same-argument x y e plain =
       let h : name_of na x.0 ∷ range_of x.1 ∷ [] ≡ name_of nb y.0 ∷ range_of y.1 ∷ [] = same-list _ _ e in
       let ps : Each IsPlain (name_of na x.0 ∷ range_of x.1 ∷ []) = list-plain (name_of na x.0) (range_of x.1 ∷ []) refl plain.0 in
@@ -171,7 +171,7 @@ module _ (na nb : NameTable) (da db : Decls) (same : SameSkeleton na nb da db) (
   no-and true = refl
   no-and false = refl
 
-  arguments-plain : (args : List Parameter) → Each IsFine (map (argument_of na) args) → Each IsPlain (map (argument_of na) args)
+  pub arguments-plain : (args : List Parameter) → Each IsFine (map (argument_of na) args) → Each IsPlain (map (argument_of na) args)
   arguments-plain [] fine = tt
   arguments-plain (x ∷ args) fine = (
     (fine.0, ap is_length_of_int (parts_of-List (name_of na x.0 ∷ range_of x.1 ∷ []) no_place) ∙ no-and (bytes_eq (text_of (name_of na x.0)) (codes "len"))),

@@ -64,8 +64,8 @@ module _ (tree : Tree) (a b : File) (ma : Means tree a) (mb : Means tree b) wher
   self : slice_get ma.names.texts 3 ≡ Some (codes "self")
   self = ap (λ (texts : List Text). slice_get texts 3) texts_a ∙ self-fourth (names_of_list tree list.File)
 
-  pub same-file : IsFormed a.decls → IsFormed b.decls → is_some a.decls.deploy ≡ true → is_some b.decls.deploy ≡ true → a.decls.procs ≡ [] → b.decls.procs ≡ [] → IsFine tree → a ≡ b
-  same-file formed_a formed_b deployed_a deployed_b alone_a alone_b fine =
+  pub same-file : IsFormed a.decls → IsFormed b.decls → is_some a.decls.deploy ≡ true → is_some b.decls.deploy ≡ true → IsFine tree → a ≡ b
+  same-file formed_a formed_b deployed_a deployed_b fine =
       let written : AreWritten ma.names mb.names a b =
       written-by ma.names mb.names a b tree (parts_of tree) refl (parts-fine-of tree fine).fine ma.shown (ma.shown ∙ sym mb.shown) ma.listed mb.listed ma.fit mb.fit in
       let formed : AreFormed ma.names mb.names a b = record {
@@ -73,8 +73,6 @@ module _ (tree : Tree) (a b : File) (ma : Means tree a) (mb : Means tree b) wher
         formed_b = formed_b;
         deployed_a = deployed_a;
         deployed_b = deployed_b;
-        alone_a = alone_a;
-        alone_b = alone_b;
         same = skeleton ma.names mb.names a b written names-same formed_a formed_b int self;
       } in
       let names : a.names ≡ b.names = ma.in_order ∙ sym mb.in_order in

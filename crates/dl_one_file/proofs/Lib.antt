@@ -13,6 +13,7 @@ pub mod Numbered
 pub mod Pairs
 pub mod Order
 pub mod Duties
+pub mod Commands
 pub mod Things
 pub mod Files
 pub mod PlainFormulas

@@ -52,7 +52,7 @@ world_syms decls = map (λ (w : World). w.sym) decls.worlds
 abbrev pub invariant_syms : Decls → List ℕ
 invariant_syms decls = map (λ (i : Invariant). i.sym) decls.invariants
 
-abbrev proc_syms : Decls → List ℕ
+abbrev pub proc_syms : Decls → List ℕ
 proc_syms decls = map (λ (p : Proc). p.sym) decls.procs
 
 -- those behind the ones of a kind
@@ -95,6 +95,9 @@ module _ (decls : Decls) (formed : IsFormed decls) where
 
   pub invariants-once : AreDistinct (invariant_syms decls)
   invariants-once = distinct-front (invariant_syms decls) (proc_syms decls) (distinct-back (world_syms decls) (from_invariants decls) worlds-on)
+
+  pub procs-once : AreDistinct (proc_syms decls)
+  procs-once = distinct-back (invariant_syms decls) (proc_syms decls) (distinct-back (world_syms decls) (from_invariants decls) worlds-on)
 
   pub labels-allowed : Each (λ s. first_name ≤ s) decls.labels
   labels-allowed = front (λ s. first_name ≤ s) decls.labels (from_hooks decls) (back (λ s. first_name ≤ s) (protocol_syms decls) (from_labels decls) formed.names.allowed)

@@ -1,47 +1,44 @@
--- Two formed files without procedures that are written alike hold the same things.
+-- Two formed files that are written alike hold the same things.
 use Rattle.std.proofs.Common.{◌≡◌, ℕ, ℤ, ◌<◌, true, List, [], ◌∷◌, length, map, Option, Some, None, refl, ap, sym, subst, ◌∙◌, arith}
-use Rattle.std.specs.Prelude.{slice_get, is_some, codes}
+use Rattle.std.specs.Prelude.{◌+◌, ◌++◌, slice_get, unwrap_or, is_some, codes}
 use Rattle.std.specs.List.{AllByRecursion as Each}
 use Rattle.dl_tree.specs.declared.tree.Tree.{Tree}
 use Rattle.dl_tree.specs.TreePlace.{place_of}
 use Rattle.dl_model.specs.declared.protocol.Protocol.{Protocol}
 use Rattle.dl_model.specs.declared.protocol.Hook.{Hook}
+use Rattle.dl_model.specs.declared.program.Proc.{Proc}
 use Rattle.dl_model.specs.declared.file.World.{World}
 use Rattle.dl_model.specs.declared.file.Invariant.{Invariant}
 use Rattle.dl_model.specs.declared.file.Program.{Program}
 use Rattle.dl_model.specs.declared.file.Deploy.{Deploy}
 use Rattle.dl_model.specs.declared.file.Decls.{Decls}
-use Rattle.dl_model.specs.Formed.{WorldIsFormed, ProgramIsFormed, DeployIsFormed, IsFormed}
+use Rattle.dl_model.specs.Lookup.{arg_names, proc_at}
+use Rattle.dl_model.specs.Words.{first_name}
+use Rattle.dl_model.specs.Formed.{WorldIsFormed, IsFormed}
 use Rattle.dl_file.specs.declared.file.ItemKind.TheVariants as kind
 use Rattle.dl_file.specs.declared.file.Proof.{Proof}
 use Rattle.dl_file.specs.declared.file.File.{File}
 use Rattle.dl_forms.specs.Context.{Text}
 use Rattle.dl_forms.specs.Table.{NameTable}
-use Rattle.dl_forms.specs.Show.{form}
+use Rattle.dl_forms.specs.Show.{number, form}
 use Rattle.dl_notation.specs.Environment.{Environment}
 use Rattle.dl_notation.specs.Rules.{other_words}
-use Rattle.dl_shown.specs.Shown.{shown_if, listed, name_of, named, label_of, tag_name, tag_in, protocol_of_label, formula_of, hook_of, hook_name, world_name, world_of, invariant_of, deploy_of}
+use Rattle.dl_shown.specs.Shown.{shown_if, listed, name_of, named, label_of, tag_name, tag_in, protocol_of_label, formula_of, hook_of, hook_name, world_name, world_of, invariant_of, node_name, proc_name, program_of, deploy_of}
+use Rattle.dl_shown.specs.Programs.{proc_of}
 use Rattle.dl_shown.specs.Scripts.{own_of, duty_of, rule_of, proof_of}
 use Rattle.dl_means.specs.Points.{fits_point}
-use Rattle.dl_means.specs.Says.{says, says_protocol, says_rule, says_proof, proc_in, variables_in}
+use Rattle.dl_means.specs.Says.{says, says_protocol, says_proc, says_rule, says_proof, proc_in, variables_in}
 use Rattle.dl_means.specs.Stands.{same_place, part_at, proof_stands}
-use Rattle.dl_one_file.proofs.Trees.{apart, first, second, IsPlain, list-plain, parts-plain, same-list, same-parts, same-head, same-tail}
+use Rattle.dl_one_file.proofs.Trees.{apart, first, second, IsPlain, list-plain, parts-plain, same-list, same-parts, same-number, same-head, same-tail}
 use Rattle.dl_one_file.proofs.Alike.{same-name}
 use Rattle.dl_one_file.proofs.Scripts.{same-place as one-place-of, same-rule}
-use Rattle.dl_one_file.proofs.Lists.{same-lists, same-names, each-at, there, within}
+use Rattle.dl_one_file.proofs.Lists.{same-lists, same-names, same-numbers, each-at, there, within}
 use Rattle.dl_one_file.proofs.Skeleton.{same-place, SameSkeleton, alike}
 use Rattle.dl_one_file.proofs.Declarations.{formulas-same, same-protocol}
 use Rattle.dl_one_file.proofs.Pairs.{AreWritten, Twice, same-nodes, same-count, twice}
-use Rattle.dl_one_file.proofs.Order.{found-shown, found-plain, found-says, hooks-once, worlds-once, same-protocol-syms, label-plain, shown-at}
-use Rattle.dl_one_file.proofs.Duties.{no-proc, duty-free, same-label, same-tag-of, same-duty}
-
--- without procedures no program is deployed
-no-programs : (decls : Decls) → decls.procs ≡ [] → (programs : List Program) → Each (ProgramIsFormed decls) programs → programs ≡ []
-no-programs decls none [] formed = refl
-no-programs decls none (program ∷ programs) formed =
-    let few : program.proc < length decls.procs = formed.0.proc in
-    let size : length decls.procs ≡ 0 = ap length none in
-    absurd (omega (arith, few, size))
+use Rattle.dl_one_file.proofs.Order.{found-shown, found-plain, found-says, hooks-once, worlds-once, procs-once, proc_syms, same-protocol-syms, label-plain, shown-at}
+use Rattle.dl_one_file.proofs.Duties.{same-label, same-tag-of, same-duty}
+use Rattle.dl_one_file.proofs.Commands.{same-proc, same-proc-name}
 
 each-written : (P : ℕ → Type 0) (f : ℕ → Tree) → ((n : ℕ) → P n → IsPlain (f n)) → (ns : List ℕ) → Each P ns → Each IsPlain (map f ns)
 each-written P f plain [] h = tt
@@ -53,8 +50,6 @@ pub record AreFormed (na nb : NameTable) (a b : File) : Type 0 where
   pub formed_b : IsFormed b.decls
   pub deployed_a : is_some a.decls.deploy ≡ true
   pub deployed_b : is_some b.decls.deploy ≡ true
-  pub alone_a : a.decls.procs ≡ []
-  pub alone_b : b.decls.procs ≡ []
   pub same : SameSkeleton na nb a.decls b.decls
 
 module _ (na nb : NameTable) (a b : File) (written : AreWritten na nb a b) (formed : AreFormed na nb a b) where
@@ -173,14 +168,62 @@ module _ (na nb : NameTable) (a b : File) (written : AreWritten na nb a b) (form
   same-invariants : da.invariants ≡ db.invariants
   same-invariants = same-lists da.invariants db.invariants (same-count na nb a b written kind.Invariant) invariant-at
 
+  -- ---- procedures
+
+  -- the item of a procedure
+  record ProcShown (n : ℕ) (x y : Proc) : Type 0 where
+    words : List (Text × ℤ)
+    shown : proc_of na da x ≡ proc_of nb db y
+    plain : IsPlain (proc_of na da x)
+    says_a : says_proc na words x ≡ true
+    says_b : says_proc nb words y ≡ true
+
+  proc-shown : (n : ℕ) (x y : Proc) → slice_get da.procs n ≡ Some x → slice_get db.procs n ≡ Some y → ProcShown n x y
+  proc-shown n x y hx hy =
+      let t : Twice na nb a b kind.Procedure n = twice na nb a b written kind.Procedure n (within da.procs n x hx) in
+      record {
+        words = t.env.words;
+        shown = found-shown (proc_of na da) (proc_of nb db) (slice_get da.procs n) (slice_get db.procs n) x y hx hy t.shown;
+        plain = found-plain (proc_of na da) (slice_get da.procs n) x hx (t.plain refl);
+        says_a = found-says (says_proc na t.env.words) (slice_get da.procs n) x hx t.says_a;
+        says_b = found-says (says_proc nb t.env.words) (slice_get db.procs n) y hy t.says_b;
+      }
+
+  proc-sym : (n : ℕ) (x y : Proc) → slice_get da.procs n ≡ Some x → slice_get db.procs n ≡ Some y → x.sym ≡ y.sym
+  proc-sym n x y hx hy =
+      let s : ProcShown n x y = proc-shown n x y hx hy in
+      same-name na nb formed.same.names x.sym y.sym (same-head _ _ _ _ (same-parts _ _ _ _ s.shown)) (parts-plain _ _ s.plain).0
+
+  same-proc-syms : proc_syms da ≡ proc_syms db
+  same-proc-syms = same-numbers (λ (p : Proc). p.sym) da.procs db.procs (same-count na nb a b written kind.Procedure) proc-sym
+
+  proc-at : (n : ℕ) (x y : Proc) → slice_get da.procs n ≡ Some x → slice_get db.procs n ≡ Some y → x ≡ y
+  proc-at n x y hx hy =
+      let s : ProcShown n x y = proc-shown n x y hx hy in
+      same-proc na nb da db formed.same same-proc-syms (procs-once da formed.formed_a) s.words same-world-name x y s.shown s.says_a s.says_b s.plain
+
+  same-procs : da.procs ≡ db.procs
+  same-procs = same-lists da.procs db.procs (same-count na nb a b written kind.Procedure) proc-at
+
   -- ---- the deployment
 
-  deploy-of : (x y : Deploy) → DeployIsFormed da (Some x) → DeployIsFormed db (Some y) → deploy_of na da x ≡ deploy_of nb db y → IsPlain (deploy_of na da x) → x ≡ y
-  deploy-of x y fx fy e plain =
-      let worlds : x.world ≡ y.world = same-world-name x.world y.world (same-head _ _ _ _ (same-parts _ _ _ _ e)) (parts-plain _ _ plain).0 in
-      let px : x.programs ≡ [] = no-programs da formed.alone_a x.programs fx.1 in
-      let py : y.programs ≡ [] = no-programs db formed.alone_b y.programs fy.1 in
-      let programs : x.programs ≡ y.programs = px ∙ sym py in
+  same-program : (x y : Program) → program_of na da x ≡ program_of nb db y → IsPlain (program_of na da x) → x ≡ y
+  same-program x y e plain =
+      let h : node_name na da x.node ∷ proc_name na da x.proc ∷ map number x.constants ≡ node_name nb db y.node ∷ proc_name nb db y.proc ∷ map number y.constants = same-list _ _ e in
+      let ps : Each IsPlain (node_name na da x.node ∷ proc_name na da x.proc ∷ map number x.constants) = list-plain (node_name na da x.node) (proc_name na da x.proc ∷ map number x.constants) refl plain.0 in
+      let h1 = same-tail _ _ _ _ h in
+      let syms : first_name + x.node ≡ first_name + y.node = same-name na nb formed.same.names (first_name + x.node) (first_name + y.node) (same-head _ _ _ _ h) ps.0 in
+      let nodes : x.node ≡ y.node = omega (arith, syms) in
+      let procs : x.proc ≡ y.proc = same-proc-name na nb da db formed.same same-proc-syms (procs-once da formed.formed_a) x.proc y.proc (same-head _ _ _ _ h1) ps.1.0 in
+      let constants : x.constants ≡ y.constants = same-names number number (λ v w f p. same-number v w f) x.constants y.constants (same-tail _ _ _ _ h1) ps.1.1 in
+      λ i. record { node = nodes i; proc = procs i; constants = constants i }
+
+  deploy-of : (x y : Deploy) → deploy_of na da x ≡ deploy_of nb db y → IsPlain (deploy_of na da x) → x ≡ y
+  deploy-of x y e plain =
+      let h : world_name na da x.world ∷ map (program_of na da) x.programs ≡ world_name nb db y.world ∷ map (program_of nb db) y.programs = same-parts _ _ _ _ e in
+      let ps : Each IsPlain (world_name na da x.world ∷ map (program_of na da) x.programs) = parts-plain _ _ plain in
+      let worlds : x.world ≡ y.world = same-world-name x.world y.world (same-head _ _ _ _ h) ps.0 in
+      let programs : x.programs ≡ y.programs = same-names (program_of na da) (program_of nb db) same-program x.programs y.programs (same-tail _ _ _ _ h) ps.1 in
       λ i. record { world = worlds i; programs = programs i }
 
   deploy-by : (x y : Option Deploy) → da.deploy ≡ x → db.deploy ≡ y → is_some x ≡ true → is_some y ≡ true → x ≡ y
@@ -188,14 +231,17 @@ module _ (na nb : NameTable) (a b : File) (written : AreWritten na nb a b) (form
   deploy-by (Some x) None hx hy sx sy = absurd (apart sy)
   deploy-by (Some x) (Some y) hx hy sx sy =
       let t : Twice na nb a b kind.Deploy 0 = twice na nb a b written kind.Deploy 0 (rw hx (omega arith)) in
-      let fx : DeployIsFormed da (Some x) = subst (DeployIsFormed da) hx formed.formed_a.deploy in
-      let fy : DeployIsFormed db (Some y) = subst (DeployIsFormed db) hy formed.formed_b.deploy in
-      ap Some (deploy-of x y fx fy (found-shown (deploy_of na da) (deploy_of nb db) da.deploy db.deploy x y hx hy t.shown) (found-plain (deploy_of na da) da.deploy x hx (t.plain refl)))
+      ap Some (deploy-of x y (found-shown (deploy_of na da) (deploy_of nb db) da.deploy db.deploy x y hx hy t.shown) (found-plain (deploy_of na da) da.deploy x hx (t.plain refl)))
 
   same-deploy : da.deploy ≡ db.deploy
   same-deploy = deploy-by da.deploy db.deploy refl refl formed.deployed_a formed.deployed_b
 
   -- ---- proofs
+
+  same-variables : (o : Option ℕ) → variables_in na da o ≡ variables_in nb db o
+  same-variables None = refl
+  same-variables (Some p) =
+      (λ i. map (λ s. unwrap_or (slice_get (formed.same.names.texts i) s) []) (arg_names (proc_at (same-procs i) p).params ++ (proc_at (same-procs i) p).locals))
 
   same-proof : (env : Environment) (tree : Tree) (x y : Proof) → proof_of na da x ≡ proof_of nb db y → says_proof na env da x ≡ true → says_proof nb env db y ≡ true → IsPlain (proof_of na da x) →
       proof_stands tree x ≡ true → proof_stands tree y ≡ true → x ≡ y
@@ -204,18 +250,19 @@ module _ (na nb : NameTable) (a b : File) (written : AreWritten na nb a b) (form
       ≡ duty_of nb db y.duty ∷ form (codes "names") (map (name_of nb) y.names) ∷ rule_of nb db (own_of y.duty) y.script.rule ∷ [] = same-parts _ _ _ _ e in
       let ps : Each IsPlain (duty_of na da x.duty ∷ form (codes "names") (map (name_of na) x.names) ∷ rule_of na da (own_of x.duty) x.script.rule ∷ []) = parts-plain _ _ plain in
       let h1 = same-tail _ _ _ _ h in
-      let duties : x.duty ≡ y.duty = same-duty na nb da db formed.same formed.formed_a (same-protocol-syms na nb a b written formed.same.names formed.formed_a formed.formed_b) same-invariants formed.alone_a formed.alone_b x.duty y.duty (same-head _ _ _ _ h) ps.0 in
+      let fits_x : fits_point da x.duty ≡ true = first (fits_point da x.duty) _ sx in
+      let fits_y : fits_point db y.duty ≡ true = first (fits_point db y.duty) _ sy in
+      let duties : x.duty ≡ y.duty = same-duty na nb da db formed.same formed.formed_a (same-protocol-syms na nb a b written formed.same.names formed.formed_a formed.formed_b) same-invariants same-procs x.duty y.duty (same-head _ _ _ _ h) ps.0 fits_x fits_y in
       let names : x.names ≡ y.names = same-names (name_of na) (name_of nb) (same-name na nb formed.same.names) x.names y.names (same-parts _ _ _ _ (same-head _ _ _ _ h1)) (parts-plain _ _ ps.1.0) in
-      let none_x : proc_in x.duty ≡ None = no-proc x.duty (duty-free na da formed.alone_a x.duty ps.0) in
-      let none_y : proc_in y.duty ≡ None = ap proc_in (sym duties) ∙ none_x in
+      let vars : List Text = variables_in na da (proc_in x.duty) in
+      let known : variables_in nb db (proc_in y.duty) ≡ vars = ap (λ d. variables_in nb db (proc_in d)) (sym duties) ∙ sym (same-variables (proc_in x.duty)) in
       let own : own_of y.duty ≡ own_of x.duty = ap own_of (sym duties) in
       let rules : rule_of na da (own_of x.duty) x.script.rule ≡ rule_of nb db (own_of x.duty) y.script.rule = same-head _ _ _ _ (same-tail _ _ _ _ h1) ∙ ap (λ o. rule_of nb db o y.script.rule) own in
       let said_x : says_rule na (other_words (variables_in na da (proc_in x.duty)) env.words) x.script.rule ≡ true = second (fits_point da x.duty) _ sx in
       let said_y : says_rule nb (other_words (variables_in nb db (proc_in y.duty)) env.words) y.script.rule ≡ true = second (fits_point db y.duty) _ sy in
-      let free_x : says_rule na (other_words [] env.words) x.script.rule ≡ true = ap (λ o. says_rule na (other_words (variables_in na da o) env.words) x.script.rule) (sym none_x) ∙ said_x in
-      let free_y : says_rule nb (other_words [] env.words) y.script.rule ≡ true = ap (λ o. says_rule nb (other_words (variables_in nb db o) env.words) y.script.rule) (sym none_y) ∙ said_y in
-      let scripts = same-rule na nb da db (own_of x.duty) (alike na nb da db formed.same (own_of x.duty)) (other_words [] env.words) x.script.rule y.script.rule (part_at tree 3) x.script.place y.script.place
-      rules free_x free_y ps.1.1.0 (second (same_place x.place (place_of tree)) _ tx) (second (same_place y.place (place_of tree)) _ ty) in
+      let also_y : says_rule nb (other_words vars env.words) y.script.rule ≡ true = ap (λ (texts : List Text). says_rule nb (other_words texts env.words) y.script.rule) (sym known) ∙ said_y in
+      let scripts = same-rule na nb da db (own_of x.duty) (alike na nb da db formed.same (own_of x.duty)) (other_words vars env.words) x.script.rule y.script.rule (part_at tree 3) x.script.place y.script.place
+      rules said_x also_y ps.1.1.0 (second (same_place x.place (place_of tree)) _ tx) (second (same_place y.place (place_of tree)) _ ty) in
       let places : x.place ≡ y.place = one-place-of x.place y.place tree (first (same_place x.place (place_of tree)) _ tx) (first (same_place y.place (place_of tree)) _ ty) in
       λ i. record { duty = duties i; names = names i; script = record { rule = scripts.0 i; place = scripts.1 i }; place = places i }
 
@@ -233,13 +280,12 @@ module _ (na nb : NameTable) (a b : File) (written : AreWritten na nb a b) (form
   pub same-decls : da ≡ db
   same-decls =
       let nodes : da.inst.nodes ≡ db.inst.nodes = same-nodes na nb a b written in
-      let procs : da.procs ≡ db.procs = formed.alone_a ∙ sym formed.alone_b in
       λ i. record {
         inst = record { nodes = nodes i; protocols = same-protocols i; of = formed.same.of i };
         labels = formed.same.labels i;
         hooks = same-hooks i;
         worlds = same-worlds i;
         invariants = same-invariants i;
-        procs = procs i;
+        procs = same-procs i;
         deploy = same-deploy i;
       }

@@ -151,7 +151,7 @@ numbers-zip [] n state = tt
 numbers-zip (v ∷ vs) n state = (refl, numbers-zip vs n state)
 
 -- a number of a sort is one of i64
-constants-known : (params : List Parameter) (vs : List ℤ) → Each IsSort (arg_sorts params) → all_in_sorts (arg_sorts params) vs ≡ true → Each (TermIsKnown (bare [])) (map (λ v. Num v) vs)
+pub constants-known : (params : List Parameter) (vs : List ℤ) → Each IsSort (arg_sorts params) → all_in_sorts (arg_sorts params) vs ≡ true → Each (TermIsKnown (bare [])) (map (λ v. Num v) vs)
 constants-known [] [] s h = tt
 constants-known [] (v ∷ vs) s h = absurd (false≢true h)
 constants-known (p ∷ ps) [] s h = absurd (false≢true h)
@@ -176,6 +176,10 @@ programs-formed : (d : Decls) (o : Option Deploy) → DeployIsFormed d o → Eac
 programs-formed d None h = tt
 programs-formed d (Some deploy) h = h.1
 
+-- a node is a number of i64
+pub node-fits : (d : Decls) → IsFormed d → (node : ℕ) → node < d.inst.nodes → is_i64 (pos node) ≡ true
+node-fits d formed node known = let few = formed.small.nodes in int-of_nat node (omega (known, few, arith))
+
 module _ (d : Decls) (formed : IsFormed d) (node : ℕ) (program : Program) (is_formed : ProgramIsFormed d program) where
   abbrev proc : Proc
   proc = proc_at d.procs program.proc
@@ -189,13 +193,10 @@ module _ (d : Decls) (formed : IsFormed d) (node : ℕ) (program : Program) (is_
   proc-formed : ProcIsFormed d program.proc proc
   proc-formed = formed.procs program.proc proc (proc-there d.procs program.proc is_formed.proc)
 
-  node-known : (known : node < d.inst.nodes) → is_i64 (pos node) ≡ true
-  node-known known = let few = formed.small.nodes in int-of_nat node (omega (known, few, arith))
-
   pub deploy-holds : node < d.inst.nodes → IsValid d.inst (deploy_sequent d node (Some program)) → holds proc.pre (entry_names proc (pos node) program.constants) (first_state d.inst) ≡ true
   deploy-holds known valid =
       let first = first_state d.inst in
-      let closed = closed-put d.inst xs terms (node-known known, constants-known proc.params program.constants proc-formed.params.1 is_formed.constants) proc.pre proc-formed.pre.0 in
+      let closed = closed-put d.inst xs terms (node-fits d formed node known, constants-known proc.params program.constants proc-formed.params.1 is_formed.constants) proc.pre proc-formed.pre.0 in
       sym (put-same d.inst xs proc.pre proc-formed.pre.0 first xs terms (no_names 0) (entry_names proc (pos node) program.constants)
       (λ y bound. record {
         other = not-true (has xs y) (λ mine. true-false (has (bound_names proc.pre) y) bound (binds-none proc.pre (file_scope d.inst xs) y proc-formed.pre.0 mine));

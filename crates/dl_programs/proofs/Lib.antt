@@ -19,3 +19,10 @@ pub mod Blocks
 pub mod Deployed
 pub mod Programs
 pub mod Example
+pub mod EachDuty
+pub mod KnownPut
+pub mod ProgramNames
+pub mod Telling
+pub mod CleanLemmas
+pub mod Clean
+pub mod Quiet

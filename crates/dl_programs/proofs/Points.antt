@@ -1,5 +1,5 @@
 -- The points of a block by their numbers, and the names of a procedure's obligations.
-use Rattle.std.proofs.Common.{◌≡◌, ℕ, zero, suc, ◌+◌, ◌≤◌, Some, List, [], ◌∷◌, ◌++◌, map, length, length-append, slice_get, refl, ap, sym, ◌∙◌, arith}
+use Rattle.std.proofs.Common.{◌≡◌, ℕ, zero, suc, ◌+◌, Some, List, [], ◌∷◌, ◌++◌, map, length, length-append, slice_get, refl, ap, sym, ◌∙◌, arith}
 use Rattle.dl_term.specs.declared.syntax.Formula.{Formula}
 use Rattle.dl_model.specs.declared.program.Proc.{Proc}
 use Rattle.dl_model.specs.declared.file.Decls.{Decls}
@@ -8,7 +8,7 @@ use Rattle.dl_model.specs.Lookup.{Parameter, arg_names}
 use Rattle.dl_model.specs.Words.{me_word}
 use Rattle.dl_model.specs.Formed.{points, proc_variables}
 use Rattle.dl_inv.specs.Obligations.{with_sort}
-use Rattle.dl_triples.specs.Points.{Point, pre_of, points_of, point_at, note_of}
+use Rattle.dl_triples.specs.Points.{Point, pre_of, points_of, point_at}
 use Rattle.dl_triples.specs.Obligations.{int_sort, vars_of}
 use Rattle.dl_triples.specs.Taken.{var_names}
 

@@ -14,7 +14,7 @@ use Rattle.dl_model.proofs.Small.{or-true-left, or-true-right, either-true}
 use Rattle.dl_sequent.specs.declared.duty.Duty.{Duty}
 use Rattle.dl_sequent.specs.declared.duty.Duty.TheVariants.{Stable, Frame}
 use Rattle.dl_inv.specs.Obligations.{with_sort}
-use Rattle.dl_inv.proofs.Lists.{each-append, has-front, has-back}
+use Rattle.dl_inv.proofs.Lists.{each-append, has-front}
 use Rattle.dl_sound.specs.Obligations.{Wherever, IsKeptAt, IsStable, NamesAreSorted}
 use Rattle.dl_triples.specs.Points.{Point, point_at, note_of, frame_of}
 use Rattle.dl_triples.specs.Duties.{stability, frame_stability, steps_of_world}

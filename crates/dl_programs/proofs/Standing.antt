@@ -26,7 +26,7 @@ use Rattle.dl_sequent.specs.Grounds.{IsGrounded, IsOwn}
 use Rattle.dl_sequent.proofs.Bounded.{bounds-sound}
 use Rattle.dl_inv.specs.Joined.{is_true, nested, all_of}
 use Rattle.dl_inv.specs.Steps.{called}
-use Rattle.dl_inv.specs.Obligations.{with_sort, known}
+use Rattle.dl_inv.specs.Obligations.{with_sort}
 use Rattle.dl_inv.proofs.Lists.{each-append, has-front, has-back}
 use Rattle.dl_sound.specs.Obligations.{NamesAreSorted, StandsAt}
 use Rattle.dl_sound.proofs.StepNames.{node-in-sort, node-is}

@@ -135,8 +135,8 @@ pub(crate) fn ending_in(names: &[Name], decls: &Decls, line: &[u8]) -> Option<(u
     }
 }
 
-/// An order of delivery.
-fn order_in(word: &[u8]) -> Option<Order>
+/// An order of delivery, as it is written: `oldest`, `newest`, or `seed:` and a natural number below 2^64.
+pub fn order_in(word: &[u8]) -> Option<Order>
     ensures { result ≡ order_of word.now }
 {
     if is(word, "oldest") {

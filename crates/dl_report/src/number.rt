@@ -83,8 +83,8 @@ pub(crate) fn natural(word: &[u8]) -> Option<u64>
     }
 }
 
-/// A natural number below 2^32, as it is written.
-pub(crate) fn small(word: &[u8]) -> Option<u32>
+/// A natural number below 2^32, as it is written: digits without leading zeros.
+pub fn small(word: &[u8]) -> Option<u32>
     ensures { result ≡ small_in word.now }
 {
     match natural(word) {

@@ -1,3 +1,4 @@
 pub mod CertificateLemmas
 pub mod Moved
 pub mod NodeLemmas
+pub mod ProgramLemmas

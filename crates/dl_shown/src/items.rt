@@ -5,12 +5,14 @@ ghost use Rattle.dl_model.specs.Words.{first_name};
 ghost use Rattle.dl_file.specs.declared.file.ItemKind.TheVariants.{Label};
 ghost use Rattle.dl_forms.specs.Show.{form};
 ghost use Rattle.dl_shown.specs.Shown.{shown_if, sort_of, nodes_from, protocol_of, hook_of, world_of, invariant_of, deploy_of};
+ghost use Rattle.dl_shown.specs.Programs.{proc_of};
 ghost use Rattle.dl_shown.specs.Scripts.{proof_of};
 ghost use Rattle.dl_shown.specs.Whole.{declaration_of, item_of, shown_file};
 
 use crate::declarations::{deployment, held, hook, instance, protocol, sort, world};
 use crate::found::node;
 use crate::pieces::{begin, count, list, nothing};
+use crate::programs::procedure;
 use crate::scripts::proof;
 use dl_file::{File, Item, ItemKind, Proof};
 use dl_forms::Names;
@@ -78,6 +80,15 @@ fn invariant_at(alloc: Global, names: &Names, decls: &Decls, at: usize) -> Resul
     }
 }
 
+fn procedure_at(alloc: Global, names: &Names, decls: &Decls, at: usize) -> Result<Tree, AllocError>
+    ensures { IfOk result (λ tree. tree ≡ shown_if (proc_of names.now decls.now) (slice_get decls.now.procs at)) }
+{
+    match decls.procs.get(at) {
+        Some(declared) => procedure(alloc, names, decls, declared),
+        None => nothing(alloc),
+    }
+}
+
 fn deployed(alloc: Global, names: &Names, decls: &Decls) -> Result<Tree, AllocError>
     ensures { IfOk result (λ tree. tree ≡ shown_if (deploy_of names.now decls.now) decls.now.deploy) }
 {
@@ -89,8 +100,8 @@ fn deployed(alloc: Global, names: &Names, decls: &Decls) -> Result<Tree, AllocEr
 
 /// The item with this number, from 0, among those of its kind, as a tree without places.
 ///
-/// A number that names nothing is a symbol without text, and so is a proof, which stands in no `Decls`. A procedure isn't
-/// shown yet and is answered as want of memory. Otherwise its only error is want of memory.
+/// A number that names nothing is a symbol without text, and so is a proof, which stands in no `Decls`. Its only error is
+/// want of memory.
 pub fn show_item(
     alloc: Global,
     names: &Names,
@@ -107,7 +118,7 @@ pub fn show_item(
         ItemKind::Hook => hook_at(alloc, names, decls, at as usize),
         ItemKind::World => world_at(alloc, names, decls, at as usize),
         ItemKind::Invariant => invariant_at(alloc, names, decls, at as usize),
-        ItemKind::Procedure => Err(AllocError),
+        ItemKind::Procedure => procedure_at(alloc, names, decls, at as usize),
         ItemKind::Deploy => deployed(alloc, names, decls),
         ItemKind::Proof => nothing(alloc),
     }
@@ -183,10 +194,8 @@ fn add_items(
     Ok(())
 }
 
-/// A file as a tree without places. The names have the texts of the file's names and the sorts that it declares.
-///
-/// A procedure isn't shown yet, and a file that has one is answered as want of memory. Otherwise its only error is want
-/// of memory.
+/// A file as a tree without places. The names have the texts of the file's names and the sorts that it declares. Its
+/// only error is want of memory.
 pub fn show_file(alloc: Global, names: &Names, file: &File) -> Result<Tree, AllocError>
     ensures { IfOk result (λ tree. tree ≡ shown_file names.now file.now) }
 {

@@ -8,6 +8,7 @@ mod found;
 mod items;
 mod obligations;
 mod pieces;
+mod programs;
 mod scripts;
 
 pub use items::{show_file, show_item, show_item_of, show_nodes, show_proof};

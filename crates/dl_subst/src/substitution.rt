@@ -127,6 +127,56 @@ pub fn put_terms(
     change_formula(alloc, &Change::ForVariables(&*syms, &*terms, own), formula)
 }
 
+/// The formula with the term for the variable, with no look at captures.
+///
+/// `Capture` never comes. `Size` comes exactly where the result has more than 1,000,000 parts or nests more than 4,000
+/// deep, before any of it is built.
+pub fn put_term(
+    alloc: Global,
+    formula: &Formula,
+    sym: u32,
+    term: &Term,
+) -> Result<Formula, SubstFault>
+    ensures made { IfOk result (λ made. made ≡ substituted formula.now sym term.now) }
+    ensures small { IfOk result (λ made. is_oversized made ≡ false) }
+    ensures capture { (result ≡ Err SubstFault.Capture) → ⊥ }
+    ensures size { (result ≡ Err SubstFault.Size) ↔ (is_oversized (substituted formula.now sym term.now) ≡ true) }
+{
+    make_within(alloc, formula, &Change::ForVariable(sym, &*term))
+}
+
+/// As [`put_terms`], but where the result has more than 1,000,000 parts or nests more than 4,000 deep, `Size` comes before
+/// any of it is built. `Capture` never comes.
+pub fn put_terms_within(
+    alloc: Global,
+    formula: &Formula,
+    syms: &[u32],
+    terms: &[Term],
+    own: Lab,
+) -> Result<Formula, SubstFault>
+    ensures made { IfOk result (λ made. made ≡ terms_put formula.now syms.now terms.now own) }
+    ensures small { IfOk result (λ made. is_oversized made ≡ false) }
+    ensures capture { (result ≡ Err SubstFault.Capture) → ⊥ }
+    ensures size { (result ≡ Err SubstFault.Size) ↔ (is_oversized (terms_put formula.now syms.now terms.now own) ≡ true) }
+{
+    make_within(alloc, formula, &Change::ForVariables(&*syms, &*terms, own))
+}
+
+fn make_within(alloc: Global, formula: &Formula, change: &Change) -> Result<Formula, SubstFault>
+    ensures made { IfOk result (λ made. made ≡ changed (change_of change.now) formula.now) }
+    ensures small { IfOk result (λ made. is_oversized made ≡ false) }
+    ensures capture { (result ≡ Err SubstFault.Capture) → ⊥ }
+    ensures size { (result ≡ Err SubstFault.Size) ↔ (is_oversized (changed (change_of change.now) formula.now) ≡ true) }
+{
+    if is_too_large(change, formula) {
+        return Err(SubstFault::Size);
+    }
+    match change_formula(alloc, change, formula) {
+        Ok(made) => Ok(made),
+        Err(_) => Err(SubstFault::Memory),
+    }
+}
+
 fn make(alloc: Global, formula: &Formula, change: &Change) -> Result<Formula, SubstFault>
     ensures made { IfOk result (λ made. made ≡ changed (change_of change.now) formula.now) }
     ensures capture { (result ≡ Err SubstFault.Capture) ↔ (captures (change_of change.now) formula.now ≡ true) }

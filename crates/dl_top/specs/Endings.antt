@@ -1,5 +1,5 @@
 -- What a command did to its source and its sink.
-use Rattle.std.specs.Prelude.{◌≡◌, ℕ, ◌≤◌, ◌<◌, ◌↔◌, ◌⊎◌, true, List, [], length, Option, Some, None, is_some}
+use Rattle.std.specs.Prelude.{◌≡◌, ℕ, ◌≤◌, ◌<◌, ◌↔◌, ◌⊎◌, Bool, true, false, List, [], length, Option, Some, None, is_some}
 use Rattle.std.specs.Io.KnownBytes.{Consumes, Appends, IsAtEnd}
 use Rattle.dl_io.specs.Causes.{Rose}
 use Rattle.dl_io.specs.Whole.{WritesFront}
@@ -9,9 +9,11 @@ use Rattle.dl_tree.specs.Layout.{layout}
 use Rattle.dl_file.specs.declared.answer.Accepted.{Accepted}
 use Rattle.dl_file.specs.declared.answer.Fault.{Fault}
 use Rattle.dl_file.specs.declared.answer.Fault.TheVariants.{At, Memory}
+use Rattle.dl_file.specs.declared.file.File.{File}
 use Rattle.dl_check.specs.Answers.{IsAccepted, IsRefused}
+use Rattle.dl_run.specs.Reports.{IsReported}
 use Rattle.dl_top.specs.declared.request.Command.{Command}
-use Rattle.dl_top.specs.declared.request.Command.TheVariants.{Check, Show}
+use Rattle.dl_top.specs.declared.request.Command.TheVariants.{Check, Show, Run}
 use Rattle.dl_top.specs.declared.status.Status.{Status}
 use Rattle.dl_top.specs.declared.status.Status.TheVariants.{Done, Refused, Usage, ReadFault, WriteFault, NoMemory, Unended, TooLong}
 use Rattle.dl_top.specs.Lines.{usage_line, read_fault_line, too_long_line, accepted_line, refusal_line}
@@ -44,35 +46,46 @@ pub record HasWriteFaultCause (before now : ℕ) (status : Status) : Type 0 wher
 abbrev pub WritesLine : ℕ → ℕ → Option (List ℕ) → Option (List ℕ) → List ℕ → Type 0
 WritesLine before now old new line = Appends old new line ⊎ (Rose before now × WritesFront old new line)
 
--- what a command writes of an accepted tree: the counts of its file, or the tree in its one layout
-abbrev pub text_of : Command → Tree → Accepted → List ℕ
-text_of Check tree accepted = accepted_line accepted
-text_of Show tree accepted = layout tree
+-- What a command writes of an accepted tree and its file, and whether each program that it ran returned: the counts of the file, the
+-- tree in its one layout, or the report of the file's serial run.
+abbrev pub IsOutput : Command → Tree → File → Accepted → List ℕ → Bool → Type 0
+IsOutput Check tree file counts output ended = (output ≡ accepted_line counts) × (ended ≡ true)
+IsOutput Show tree file counts output ended = (output ≡ layout tree) × (ended ≡ true)
+IsOutput (Run serial budget order) tree file counts output ended = IsReported file budget order output ended
 
--- the text that a command writes of a text that is accepted
-abbrev pub IsTextOf : Option Command → List ℕ → List ℕ → Type 0
-IsTextOf (Some command) text output = (tree : Tree) × (accepted : Accepted) × TextIsAccepted text tree accepted × (output ≡ text_of command tree accepted)
-IsTextOf None text output = ⊥
+-- The text that a command writes of a text that is accepted, and whether each program that it ran returned.
+abbrev pub IsTextOf : Option Command → List ℕ → List ℕ → Bool → Type 0
+IsTextOf (Some command) text output ended =
+    (tree : Tree) × (counts : Accepted) × (is : TextIsAccepted text tree counts) × IsOutput command tree is.known.file counts output ended
+IsTextOf None text output ended = ⊥
 
 -- the line of a text's first fault
 abbrev pub IsRefusalOf : List ℕ → List ℕ → Type 0
 IsRefusalOf text line = (rule : ℕ) × (place : Place) × (what : Option Tree) × TextIsRefused text rule place what × (line ≡ refusal_line rule place what)
 
 -- What was written with each status: the text of the command, a front of it, a line of its own, or nothing. Of a text that was read
--- whole it is what the command writes where the text is accepted, or the line of its first fault.
+-- whole it is what the command writes where the text is accepted, or the line of its first fault. The whole text goes with 0 where
+-- each program that was run returned, as where none was, and else with 6.
 abbrev pub Writes : Option Command → List ℕ → ℕ → ℕ → Option (List ℕ) → Option (List ℕ) → Status → Type 0
-Writes command text before now old new Done = (output : List ℕ) × IsTextOf command text output × Appends old new output
-Writes command text before now old new WriteFault = (output : List ℕ) × IsTextOf command text output × WritesFront old new output
+Writes command text before now old new Done = (output : List ℕ) × IsTextOf command text output true × Appends old new output
+Writes command text before now old new Unended = (output : List ℕ) × IsTextOf command text output false × Appends old new output
+Writes command text before now old new WriteFault = (output : List ℕ) × (ended : Bool) × IsTextOf command text output ended × WritesFront old new output
 Writes command text before now old new Refused = (line : List ℕ) × IsRefusalOf text line × WritesLine before now old new line
 Writes command text before now old new Usage = WritesLine before now old new usage_line
 Writes command text before now old new ReadFault = WritesLine before now old new read_fault_line
 Writes command text before now old new TooLong = WritesLine before now old new too_long_line
 Writes command text before now old new NoMemory = Appends old new []
-Writes command text before now old new Unended = ⊥
 
 -- a count stayed below a counter's last value and as it was
 abbrev pub IsQuiet : ℕ → ℕ → Type 0
 IsQuiet before now = Rose before now → ⊥
+
+-- the text of the command was written whole, or memory was wanting
+abbrev pub IsServed : Status → Type 0
+IsServed Done = Unit {0}
+IsServed Unended = Unit {0}
+IsServed NoMemory = Unit {0}
+IsServed _ = ⊥
 
 -- The source gave some bytes in this call. They are the whole text where one is answered, and too many exactly where that is answered;
 -- and what was written is what belongs to the command, to this text and to the status. A text that was read whole is refused exactly
@@ -84,7 +97,7 @@ pub record Answers (command : Option Command) (limit : ℕ) (left left_behind : 
   pub too_long : (status ≡ TooLong) ↔ (limit < length text)
   pub written : Writes command text before now old new status
   pub refused : IsOfWholeText status → (status ≡ Refused) ↔ HasFault text
-  pub complete : IsFaultless text → is_some command ≡ true → length text ≤ limit → IsQuiet reads_before reads_now → IsQuiet before now → (status ≡ Done) ⊎ (status ≡ NoMemory)
+  pub complete : IsFaultless text → is_some command ≡ true → length text ≤ limit → IsQuiet reads_before reads_now → IsQuiet before now → IsServed status
 
 -- ---- what private calls answer
 
@@ -92,13 +105,14 @@ pub record Answers (command : Option Command) (limit : ℕ) (left left_behind : 
 abbrev pub IsAfterText : Status → Type 0
 IsAfterText NoMemory = Unit {0}
 IsAfterText Done = Unit {0}
+IsAfterText Unended = Unit {0}
 IsAfterText Refused = Unit {0}
 IsAfterText WriteFault = Unit {0}
 IsAfterText _ = ⊥
 
 -- what a command writes of a tree
-abbrev pub IsTextOfTree : Command → Tree → List ℕ → Type 0
-IsTextOfTree command tree output = (accepted : Accepted) × IsAccepted tree accepted × (output ≡ text_of command tree accepted)
+abbrev pub IsOutputOfTree : Command → Tree → List ℕ → Bool → Type 0
+IsOutputOfTree command tree output ended = (counts : Accepted) × (is : IsAccepted tree counts) × IsOutput command tree is.file counts output ended
 
 -- a tree's first fault, or want of memory
 abbrev pub IsFaultOfTree : Tree → Fault → Type 0

@@ -1,3 +1,4 @@
+pub mod Budgets
 pub mod Endings
 pub mod Lines
 pub mod Statuses

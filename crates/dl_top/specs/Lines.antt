@@ -36,7 +36,6 @@ rule_names =
     (4, codes "Stray") ∷
     (5, codes "Deep") ∷
     (6, codes "BigNumber") ∷
-    (9, codes "NotYet") ∷
     (10, codes "BadForm") ∷
     (11, codes "Unknown") ∷
     (12, codes "Twice") ∷

@@ -5,19 +5,20 @@ use Rattle.dl_tree.specs.declared.tree.Tree.{Tree}
 use Rattle.dl_tree.specs.Faults.{fault_of}
 use Rattle.dl_tree.specs.Spelling.{Spells}
 use Rattle.dl_model.specs.Safe.{EachRunIsSafe}
+use Rattle.dl_notation.specs.Judge.{file_fault}
 use Rattle.dl_file.specs.declared.answer.Accepted.{Accepted}
 use Rattle.dl_file.specs.declared.file.File.{File}
 use Rattle.dl_faults.specs.Verdict.{first_fault}
-use Rattle.dl_check.specs.Early.{reading_fault}
 use Rattle.dl_check.specs.Reading.{IsRead}
 use Rattle.dl_check.specs.Answers.{IsAccepted, IsRefused}
 
 -- The text spells the tree, which means a formed file without a fault. Every run of this file is safe: in each of its states each
--- coherence of the composed world and each invariant holds, and each send of a program meets its guard and its hooks.
+-- coherence of the composed world and each invariant holds, each send of a program meets its guard and its hooks, and each program
+-- that ended its postcondition.
 pub record TextIsAccepted (text : List ℕ) (tree : Tree) (counts : Accepted) : Type 0 where
   pub spelled : Spells text tree
-  pub accepted : IsAccepted tree counts
-  pub safe : EachRunIsSafe accepted.file.decls
+  pub known : IsAccepted tree counts
+  pub safe : EachRunIsSafe known.file.decls
 
 pub record TreeIsRefused (text : List ℕ) (rule : ℕ) (place : Place) (what : Option Tree) : Type 0 where
   pub tree : Tree
@@ -47,7 +48,7 @@ pub record HasFileFault (tree : Tree) : Type 0 where
 pub record HasTreeFault (text : List ℕ) : Type 0 where
   pub tree : Tree
   pub spelled : Spells text tree
-  pub faulty : (is_some (reading_fault tree) ≡ true) ⊎ HasFileFault tree
+  pub faulty : (is_some (file_fault tree) ≡ true) ⊎ HasFileFault tree
 
 -- The text has a fault: one of its bytes or tokens, or one of the tree that it spells.
 abbrev pub HasFault : List ℕ → Type 0

@@ -28,7 +28,6 @@ fn rule_name(rule: u8) -> &'static str
         4 => "Stray",
         5 => "Deep",
         6 => "BigNumber",
-        9 => "NotYet",
         10 => "BadForm",
         11 => "Unknown",
         12 => "Twice",

@@ -1,50 +1,88 @@
-//! The words of the command line, and the command that they name.
+//! The command that the words of a command line name.
 
-ghost use Rattle.std.specs.Prelude.{◌≡◌};
-ghost use Rattle.std.specs.String.{string_bytes};
-ghost use Rattle.dl_top.specs.Words.{command_of};
+ghost use Rattle.std.specs.Prelude.{◌≡◌, IfSome};
+ghost use Rattle.dl_top.specs.Words.{command_named, command_alone, command_of, if_served, served};
+ghost use Rattle.dl_top.specs.Budgets.{HasBudget};
 
+use crate::options::run_of;
 use crate::request::Command;
-use std::marker::Model;
+use crate::word::{Word, is};
 
-/// A word of the command line. Contracts see its bytes.
-#[derive(Debug, Drop)]
-pub struct Word {
-    text: String,
-}
-
-impl Model for Word {
-    ghost use Rattle.std.specs.Prelude.{List, ℕ};
-    ghost use Rattle.std.specs.String.{string_bytes};
-
-    ghost Value = { List ℕ };
-
-    ghost view = { λ word. string_bytes word.text };
-}
-
-impl Word {
-    /// The word with this text.
-    pub fn make(text: String) -> Word
-        ensures { result ≡ string_bytes text }
-    {
-        Word { text }
+/// The command of one word.
+fn command_named(word: &Word) -> Option<Command>
+    ensures value { result ≡ command_named word.now }
+    ensures budget { IfSome result HasBudget }
+{
+    if is(word, "check") {
+        Some(Command::Check)
+    } else if is(word, "show") {
+        Some(Command::Show)
+    } else {
+        None
     }
+}
 
-    fn as_str(&self) -> &str
-        ensures { result.now ≡ self.now }
-    {
-        self.text.as_str()
+/// The command of a word with these behind it.
+fn command_alone(word: &Word, words: &[Word]) -> Option<Command>
+    ensures value { result ≡ command_alone word.now words.now }
+    ensures budget { IfSome result HasBudget }
+{
+    match words {
+        [] => command_named(word),
+        _ => None,
     }
 }
 
 /// The command that the words name. `None` comes exactly where they name none, as where a word is
-/// missing, unknown or one too many.
+/// missing, unknown or one too many. The budget of a run is at most 100,000.
 pub fn command(words: &[Word]) -> Option<Command>
-    ensures { result ≡ command_of words.now }
+    ensures value { result ≡ command_of words.now }
+    ensures budget { IfSome result HasBudget }
 {
-    match words {
-        [word] if word.as_str() == "check" => Some(Command::Check),
-        [word] if word.as_str() == "show" => Some(Command::Show),
-        _ => None,
+    let [word, words @ ..] = words else {
+        return None;
+    };
+    if is(word, "run") {
+        run_of(words)
+    } else {
+        command_alone(word, words)
+    }
+}
+
+/// The command, where it is served on one thread.
+fn if_served(command: Command) -> Option<Command>
+    requires { HasBudget command }
+    ensures value { result ≡ if_served command }
+    ensures budget { IfSome result HasBudget }
+{
+    match command {
+        Command::Check => Some(Command::Check),
+        Command::Show => Some(Command::Show),
+        Command::Run {
+            serial,
+            budget,
+            order,
+        } => {
+            if serial {
+                Some(Command::Run {
+                    serial,
+                    budget,
+                    order,
+                })
+            } else {
+                None
+            }
+        }
+    }
+}
+
+/// The command that the words name and that is served on one thread.
+pub(crate) fn served(words: &[Word]) -> Option<Command>
+    ensures value { result ≡ served (command_of words.now) }
+    ensures budget { IfSome result HasBudget }
+{
+    match command(words) {
+        Some(command) => if_served(command),
+        None => None,
     }
 }

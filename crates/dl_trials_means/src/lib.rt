@@ -5,3 +5,5 @@
 
 #[cfg(test)]
 mod by_hand;
+#[cfg(test)]
+mod procedures;

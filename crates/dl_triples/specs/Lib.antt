@@ -5,3 +5,4 @@ pub mod Commands
 pub mod Obligations
 pub mod Taken
 pub mod Examples
+pub mod Built

@@ -1,10 +1,10 @@
 -- Proofs of what is no obligation, by the keys of the obligations.
 use Rattle.std.proofs.Common.{◌≡◌, Bool, List, [], ◌∷◌, ◌++◌, map, refl, ap, ◌∙◌}
 use Rattle.std.specs.List.{flat_map}
-use Rattle.dl_inv.specs.Duties.{duties_of}
 use Rattle.dl_file.specs.declared.file.Proof.{Proof}
 use Rattle.dl_file.specs.declared.file.File.{File}
 use Rattle.dl_faults.specs.declared.wrong.Wrong.{Wrong}
+use Rattle.dl_faults.specs.Whole.{duties_of}
 use Rattle.dl_faults.specs.Wrong.{at, unless}
 use Rattle.dl_faults.specs.Obligations.{extra_wrong}
 use Rattle.dl_verdict.specs.declared.keys.Key.{Key}

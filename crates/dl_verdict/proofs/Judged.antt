@@ -1,5 +1,5 @@
 -- What is wrong with one obligation, by what was found of it.
-use Rattle.std.proofs.Common.{◌≡◌, ℕ, true, false, List, Option, Some, Result, Ok, Err, IfOk, slice_get, refl, ap, sym, ◌∙◌, subst}
+use Rattle.std.proofs.Common.{◌≡◌, ℕ, Bool, true, false, List, [], ◌∷◌, Option, Some, Result, Ok, Err, IfOk, slice_get, refl, ap, sym, ◌∙◌, subst}
 use Rattle.std.specs.List.{AllByRecursion as Each}
 use Rattle.dl_model.specs.declared.sequent.Sequent.{Sequent}
 use Rattle.dl_model.specs.declared.file.Decls.{Decls}
@@ -9,22 +9,25 @@ use Rattle.dl_sequent.specs.Sizes.{is_too_large}
 use Rattle.dl_kernel.specs.declared.fault.KernelFault.{KernelFault}
 use Rattle.dl_kernel.specs.declared.fault.KernelFault.TheVariants.{RuleFails, Limit, Memory}
 use Rattle.dl_kernel.specs.Outcome.{IsAnswer}
-use Rattle.dl_inv.specs.Duties.{duties_of}
-use Rattle.dl_inv.specs.Taken.{MayTake}
-use Rattle.dl_inv.proofs.Clean.{obligations-clean}
-use Rattle.dl_inv.proofs.Lists.{each-found}
+use Rattle.dl_inv.specs.Duties.{duties_of as duties_of_states}
+use Rattle.dl_inv.proofs.Lists.{each-append, each-found}
+use Rattle.dl_triples.specs.Duties.{duties_of as duties_of_programs}
+use Rattle.dl_programs.proofs.Quiet.{IsQuiet, programs-quiet}
 use Rattle.dl_file.specs.declared.file.Proof.{Proof}
 use Rattle.dl_file.specs.declared.file.File.{File}
 use Rattle.dl_faults.specs.declared.wrong.Wrong.{Wrong}
 use Rattle.dl_faults.specs.declared.wrong.Named.TheVariants.{Obligation}
 use Rattle.dl_faults.specs.Wrong.{naming, earliest}
 use Rattle.dl_faults.specs.Obligations.{duty_place, is_proof_of, proof_of, script_wrong, sequent_wrong}
-use Rattle.dl_faults.specs.Given.{FileIsFormed, ProofIsFormed}
+use Rattle.dl_faults.specs.Whole.{duties_of, is_of_program}
+use Rattle.dl_faults.specs.Given.{TakesNames, FileIsFormed, ProofIsFormed}
 use Rattle.dl_faults.proofs.Same.{same-is}
+use Rattle.dl_faults.proofs.TwoKinds.{all-of-states, all-of-programs}
+use Rattle.dl_faults.proofs.Names.{whole-clean, state-may, program-count}
 use Rattle.dl_faults.proofs.Proved.{found-passes, proof-taken}
 use Rattle.dl_inv.specs.declared.sequents.BuildFault.{BuildFault}
 use Rattle.dl_inv.specs.declared.sequents.BuildFault.TheVariants as unbuilt
-use Rattle.dl_verdict.specs.Code.{IsCleanFor, IsRefusedAs}
+use Rattle.dl_verdict.specs.Code.{IsBuiltFor, IsCleanFor, IsRefusedAs}
 
 -- ---- sequents and their size
 
@@ -45,17 +48,45 @@ refusal-told Memory first found answer told = absurd told
 
 -- ---- names
 
-pub proof-may : (file : File) → FileIsFormed file → (duty : Duty) (proof : Proof) → proof_of file duty ≡ Some proof → MayTake file.decls duty proof.names
-proof-may file formed duty proof e =
+pub proof-takes : (file : File) → FileIsFormed file → (duty : Duty) (proof : Proof) → proof_of file duty ≡ Some proof → TakesNames file.decls duty proof.names
+proof-takes file formed duty proof e =
     let found = found-passes (ProofIsFormed file.decls) (is_proof_of duty) file.proofs proof formed.proofs e in
     proof-taken file formed duty proof found.0 (same-is proof.duty duty found.1)
 
--- ---- clean sequents
+-- ---- clean sequents, which can be built
 
 -- each obligation of a formed file is clean
 pub clean-there : (decls : Decls) → IsFormed decls → (duties : List Duty) (i : ℕ) (duty : Duty) → duties ≡ duties_of decls → slice_get duties i ≡ Some duty → IsCleanFor decls duty
 clean-there decls formed duties i duty all e =
-    each-found (IsCleanFor decls) duties i duty (subst (λ (ds : List Duty). Each (IsCleanFor decls) ds) (sym all) (obligations-clean decls formed)) e
+    each-found (IsCleanFor decls) duties i duty (subst (λ (ds : List Duty). Each (IsCleanFor decls) ds) (sym all) (whole-clean decls formed)) e
+
+kind-false : (b : Bool) → b ≡ false → b ≡ true → ⊥
+kind-false true e f = cc
+kind-false false e f = cc
+
+states-built : (decls : Decls) (duties : List Duty) → Each (λ duty. is_of_program duty ≡ false) duties → Each (IsBuiltFor decls) duties
+states-built decls [] kind = tt
+states-built decls (duty ∷ duties) kind = (
+  (λ names takes. record { of_states = λ e. state-may decls duty names e takes; of_programs = λ e. absurd (kind-false (is_of_program duty) kind.0 e) }),
+  states-built decls duties kind.1,
+)
+
+programs-built : (decls : Decls) (duties : List Duty) → Each (IsQuiet decls) duties → Each (λ duty. is_of_program duty ≡ true) duties → Each (IsBuiltFor decls) duties
+programs-built decls [] quiet kind = tt
+programs-built decls (duty ∷ duties) quiet kind = (
+  (λ names takes. record {
+    of_states = λ e. absurd (kind-false (is_of_program duty) e kind.0);
+    of_programs = λ e. quiet.0 names (program-count decls duty names e takes) takes.distinct takes.new takes.unbound;
+  }),
+  programs-built decls duties quiet.1 kind.1,
+)
+
+-- and can be built
+pub built-there : (decls : Decls) → IsFormed decls → (duties : List Duty) (i : ℕ) (duty : Duty) → duties ≡ duties_of decls → slice_get duties i ≡ Some duty → IsBuiltFor decls duty
+built-there decls formed duties i duty all e =
+    each-found (IsBuiltFor decls) duties i duty (subst (λ (ds : List Duty). Each (IsBuiltFor decls) ds) (sym all)
+    (each-append (IsBuiltFor decls) (duties_of_states decls) (duties_of_programs decls) (states-built decls (duties_of_states decls) (all-of-states decls))
+    (programs-built decls (duties_of_programs decls) (programs-quiet decls formed) (all-of-programs decls)))) e
 
 -- ---- answers
 

@@ -1,11 +1,12 @@
 //! The answer of a check.
 
-ghost use Rattle.std.specs.Prelude.{◌≡◌, None, IfOk, OnOk, length};
+ghost use Rattle.std.specs.Prelude.{◌≡◌, None, IfErr, IfOk, OnOk, length};
 ghost use Rattle.dl_model.specs.Lookup.{deploy_of};
-ghost use Rattle.dl_model.specs.Safe.{EachFreeRunMeetsInvariants};
-ghost use Rattle.dl_inv.specs.Duties.{duties_of};
-ghost use Rattle.dl_faults.specs.Given.{FileIsFormed, HasNoPrograms};
-ghost use Rattle.dl_faults.specs.Verdict.{IsVerdict, counts_of, first_fault};
+ghost use Rattle.dl_model.specs.Safe.{EachFreeRunMeetsInvariants, EachRunIsSafe};
+ghost use Rattle.dl_faults.specs.Given.{FileIsFormed};
+ghost use Rattle.dl_file.specs.declared.answer.Fault.TheVariants.{Memory};
+ghost use Rattle.dl_faults.specs.Verdict.{IsVerdict, counts_of};
+ghost use Rattle.dl_faults.specs.Whole.{duties_of};
 ghost use Rattle.dl_faults.specs.Worlds.{world_fault as fault_of_worlds};
 ghost use Rattle.dl_faults.specs.Obligations.{obligation_fault as fault_of_obligations};
 ghost use Rattle.dl_verdict.specs.Code.{IsRefusal};
@@ -60,9 +61,9 @@ fn counts(file: &File, obligations: u32) -> Result<Accepted, AllocError>
 }
 
 fn accepted(file: &File, obligations: u32) -> Result<Accepted, Fault>
-    requires none { first_fault file.now ≡ None }
-    requires count { obligations ≡ length (duties_of file.now.decls) }
-    ensures { IsVerdict file.now result }
+    requires { obligations ≡ length (duties_of file.now.decls) }
+    ensures ok { IfOk result (λ accepted. accepted ≡ counts_of file.now) }
+    ensures err { IfErr result (λ fault. fault ≡ Memory) }
 {
     match counts(file, obligations) {
         Ok(accepted) => Ok(accepted),
@@ -108,18 +109,19 @@ fn verdict(alloc: Global, file: &File) -> Result<Accepted, Fault>
     }
 }
 
-/// Checks a file of protocols and invariants that was read: that it keeps to its worlds, and that each of its obligations
-/// is proved or plain.
+/// Checks a file that was read: that it keeps to its worlds, and that each of its obligations is proved or plain.
 ///
-/// `Ok` tells how much the file has, and comes only where nothing is wrong with it. Then each coherence of the composed
-/// world and each invariant holds after every run of free nodes. `At` has the rule and the place of the first fault, that
-/// of a world before one of an obligation, with what is named there. `Memory` may come in the place of either.
+/// `Ok` tells how much the file has, and comes only where nothing is wrong with it. Then every run of it is safe: each state
+/// meets the coherences of the composed world and the invariants, each program send its guard and the hooks of the composed
+/// world, and each program that ended its postcondition. After every run of free nodes the coherences and the invariants
+/// hold. `At` has the rule and the place of the first fault, that of a world before one of an obligation, with what is named
+/// there. `Memory` may come in the place of either.
 ///
-/// The conditions are that the file is formed and has no programs, as the readers see to.
+/// The condition is that the file is formed, as the readers see to.
 pub fn check(alloc: Global, file: &File) -> Result<Accepted, Fault>
-    requires formed { FileIsFormed file.now }
-    requires free { HasNoPrograms file.now }
+    requires { FileIsFormed file.now }
     ensures verdict { IsVerdict file.now result }
+    ensures safe { OnOk result (EachRunIsSafe file.now.decls) }
     ensures keeps { OnOk result (EachFreeRunMeetsInvariants file.now.decls) }
 {
     verdict(alloc, file)

@@ -2,7 +2,7 @@
 
 ghost use Rattle.std.specs.Prelude.{◌≡◌, IfOk, length};
 ghost use Rattle.std.specs.List.{flat_map};
-ghost use Rattle.dl_inv.specs.Duties.{duties_of};
+ghost use Rattle.dl_faults.specs.Whole.{duties_of};
 ghost use Rattle.dl_faults.specs.Wrong.{earliest};
 ghost use Rattle.dl_faults.specs.Obligations.{duty_wrong, obligation_fault as fault_of_obligations};
 ghost use Rattle.dl_faults.specs.Given.{FileIsFormed};
@@ -11,9 +11,9 @@ ghost use Rattle.dl_verdict.specs.Code.{IsKnown};
 use crate::extras::extras_fault;
 use crate::known::{Known, known_of};
 use crate::sequents::duty_fault;
+use crate::whole::duties;
 use dl_faults::{Wrong, earlier_of};
 use dl_file::File;
-use dl_inv::duties;
 use dl_sequent::Duty;
 use std::alloc::{AllocError, Global};
 

@@ -2,7 +2,7 @@
 
 ghost use Rattle.std.specs.Prelude.{◌≡◌, IfOk};
 ghost use Rattle.std.specs.List.{flat_map};
-ghost use Rattle.dl_inv.specs.Duties.{duties_of};
+ghost use Rattle.dl_faults.specs.Whole.{duties_of};
 ghost use Rattle.dl_faults.specs.Wrong.{earliest};
 ghost use Rattle.dl_faults.specs.Obligations.{extra_wrong};
 ghost use Rattle.dl_verdict.specs.Code.{extra_by_keys};

@@ -6,7 +6,7 @@ ghost use Rattle.dl_model.specs.Lookup.{hook_at};
 ghost use Rattle.dl_faults.specs.Shown.{name as name_shown, obligation as obligation_shown, shown as named_shown, word as word_shown, no_place};
 ghost use Rattle.dl_verdict.specs.Parts.{head_of as first_word, rest_of};
 
-use crate::parts::{NO_PLACE, add_name, add_rest, add_word};
+use crate::parts::{NO_PLACE, add_rest, add_word, label_sym};
 use dl_faults::Named;
 use dl_file::File;
 use dl_model::Decls;
@@ -100,7 +100,7 @@ fn name_of(alloc: Global, file: &File, sym: usize) -> Result<Tree, AllocError>
     }
 }
 
-/// What is named in a refusal, as a tree without places: nothing, a hook's name, or an obligation as the item of its
+/// What is named in a refusal, as a tree without places: nothing, the name of a hook or a label, or an obligation as the item of its
 /// proof names it. Its only error is want of memory.
 pub fn shown(alloc: Global, file: &File, named: Named) -> Result<Option<Tree>, AllocError>
     ensures { IfOk result (λ tree. tree ≡ named_shown file.now named) }
@@ -109,6 +109,10 @@ pub fn shown(alloc: Global, file: &File, named: Named) -> Result<Option<Tree>, A
         Named::Nothing => Ok(None),
         Named::Hook(hook) => {
             let tree = name_of(alloc, file, hook_sym(&file.decls, hook))?;
+            Ok(Some(tree))
+        }
+        Named::Label(label) => {
+            let tree = name_of(alloc, file, label_sym(&file.decls, label))?;
             Ok(Some(tree))
         }
         Named::Obligation(duty) => {

@@ -99,7 +99,8 @@ fn proc_sym(decls: &Decls, proc: u8) -> usize
     }
 }
 
-fn label_sym(decls: &Decls, label: u8) -> usize
+/// The number of a label's name.
+pub(crate) fn label_sym(decls: &Decls, label: u8) -> usize
     ensures { result ≡ label_name decls.now label }
 {
     match decls.labels.get(usize::from(label)) {

@@ -9,37 +9,47 @@ ghost use Rattle.dl_faults.specs.Wrong.{naming, unless, earliest};
 ghost use Rattle.dl_faults.specs.Obligations.{duty_place as place_of_duty, duty_wrong, proof_of as proof_for, proof_wrong, script_wrong};
 ghost use Rattle.dl_faults.specs.declared.wrong.Named.TheVariants.{Obligation};
 ghost use Rattle.dl_faults.specs.Given.{FileIsFormed};
-ghost use Rattle.dl_verdict.specs.Code.{IsCleanFor, IsKnown, IsRefusedAs};
+ghost use Rattle.dl_verdict.specs.Code.{IsBuiltFor, IsCleanFor, IsKnown, IsRefusedAs};
 ghost use Rattle.dl_inv.specs.declared.sequents.BuildFault.TheVariants as unbuilt;
 
 use crate::known::{Known, duty_place, proof_of};
 use crate::spare::spare_names;
+use crate::whole::build;
 use dl_faults::{Named, Wrong};
 use dl_file::Proof;
-use dl_inv::{BuildFault, build};
+use dl_inv::BuildFault;
 use dl_kernel::{KernelFault, replay};
 use dl_model::{Instances, Sequent};
 use dl_sequent::{Duty, Script, plain};
 use std::alloc::{AllocError, Global};
 
-fn at_duty(known: &Known, rule: u8, duty: Duty) -> Wrong
+fn at_duty(alloc: Global, known: &Known, rule: u8, duty: Duty) -> Result<Wrong, AllocError>
     requires { IsKnown known.now }
-    ensures { result ≡ naming rule (place_of_duty known.now.file.now duty) (Obligation duty) }
+    ensures { IfOk result (λ wrong. wrong ≡ naming rule (place_of_duty known.now.file.now duty) (Obligation duty)) }
 {
-    Wrong {
+    let place = duty_place(alloc, known, duty)?;
+    Ok(Wrong {
         rule,
-        place: duty_place(known, duty),
+        place,
         what: Named::Obligation(duty),
-    }
+    })
 }
 
 // Of an obligation that was not built: it is too large.
-fn not_built(known: &Known, duty: Duty, fault: BuildFault) -> Result<Option<Wrong>, AllocError>
+fn not_built(
+    alloc: Global,
+    known: &Known,
+    duty: Duty,
+    fault: BuildFault,
+) -> Result<Option<Wrong>, AllocError>
     requires { IsKnown known.now }
     ensures { IfOk result (λ found. (fault ≡ unbuilt.Limit) × (found ≡ Some (naming 33 (place_of_duty known.now.file.now duty) (Obligation duty)))) }
 {
     match fault {
-        BuildFault::Limit => Ok(Some(at_duty(known, 33, duty))),
+        BuildFault::Limit => {
+            let wrong = at_duty(alloc, known, 33, duty)?;
+            Ok(Some(wrong))
+        }
         BuildFault::Memory => Err(AllocError),
     }
 }
@@ -90,13 +100,14 @@ fn fault_with(
     requires known { IsKnown known.now }
     requires formed { FileIsFormed known.now.file.now }
     requires clean { IsCleanFor known.now.file.now.decls duty }
+    requires built { IsBuiltFor known.now.file.now.decls duty }
     requires proof { proof_for known.now.file.now duty ≡ Some proof.now }
     ensures { IfOk result (λ found. found ≡ earliest (proof_wrong known.now.file.now duty (Some proof.now))) }
 {
     let file = known.file;
-    match build(alloc, &file.decls, &duty, proof.names.as_slice()) {
+    match build(alloc, &file.decls, duty, proof.names.as_slice()) {
         Ok(sequent) => script_fault(alloc, &file.decls.inst, sequent, &proof.script),
-        Err(fault) => not_built(known, duty, fault),
+        Err(fault) => not_built(alloc, known, duty, fault),
     }
 }
 
@@ -117,19 +128,21 @@ fn unproved_fault(
     if judged? {
         return Ok(None);
     }
-    Ok(Some(at_duty(known, 30, duty)))
+    let wrong = at_duty(alloc, known, 30, duty)?;
+    Ok(Some(wrong))
 }
 
 fn fault_without(alloc: Global, known: &Known, duty: Duty) -> Result<Option<Wrong>, AllocError>
     requires known { IsKnown known.now }
     requires formed { FileIsFormed known.now.file.now }
+    requires built { IsBuiltFor known.now.file.now.decls duty }
     ensures { IfOk result (λ found. found ≡ earliest (proof_wrong known.now.file.now duty None)) }
 {
     let file = known.file;
     let names = spare_names(alloc, file, duty)?;
-    match build(alloc, &file.decls, &duty, names.as_slice()) {
+    match build(alloc, &file.decls, duty, names.as_slice()) {
         Ok(sequent) => unproved_fault(alloc, known, duty, sequent),
-        Err(fault) => not_built(known, duty, fault),
+        Err(fault) => not_built(alloc, known, duty, fault),
     }
 }
 
@@ -143,6 +156,7 @@ pub(crate) fn duty_fault(
     requires known { IsKnown known.now }
     requires formed { FileIsFormed known.now.file.now }
     requires clean { IsCleanFor known.now.file.now.decls duty }
+    requires built { IsBuiltFor known.now.file.now.decls duty }
     ensures { IfOk result (λ found. found ≡ earliest (duty_wrong known.now.file.now duty)) }
 {
     match proof_of(known, duty) {

@@ -6,7 +6,7 @@ ghost use Rattle.std.specs.Option.{option_copied};
 ghost use Rattle.dl_model.specs.Lookup.{no_tag};
 ghost use Rattle.dl_wp.specs.Steps.{spoken_of as spoken_in};
 ghost use Rattle.dl_inv.specs.Steps.{tag_of};
-ghost use Rattle.dl_inv.specs.Taken.{names_taken as taken};
+ghost use Rattle.dl_faults.specs.Whole.{names_taken as taken};
 ghost use Rattle.dl_faults.specs.Obligations.{spare_names as spare};
 
 use dl_file::File;
@@ -82,15 +82,25 @@ fn names_taken(decls: &Decls, duty: Duty) -> usize
         Duty::Start { .. } => 0,
         Duty::Guard { .. } => 0,
         Duty::AfterSend { .. } => 0,
-        Duty::Got { .. } => 0,
+        Duty::Got { .. } => 1,
         Duty::Miss { .. } => 0,
         Duty::AfterRead { .. } => 0,
         Duty::Body { .. } => 0,
         Duty::Exit { .. } => 0,
         Duty::Enter { .. } => 0,
-        Duty::Leave { .. } => 0,
-        Duty::Stable { .. } => 0,
-        Duty::Frame { .. } => 0,
+        Duty::Leave { .. } => 1,
+        Duty::Stable {
+            label,
+            tag,
+            receive,
+            ..
+        } => taken_by_step(&decls.inst, None, Lab::At(label), tag, receive),
+        Duty::Frame {
+            label,
+            tag,
+            receive,
+            ..
+        } => taken_by_step(&decls.inst, None, Lab::At(label), tag, receive),
         Duty::Deploy { .. } => 0,
     }
 }

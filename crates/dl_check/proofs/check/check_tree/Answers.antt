@@ -1,5 +1,5 @@
-use Rattle.dl_check.proofs.ReadLemmas.{checked}
+use Rattle.dl_check.proofs.ReadLemmas.{counted}
 use Rattle.dl_check.proofs.check.check_tree.Goals as goal
 
 pub returns-in-Ok : goal.returns-in-Ok
-returns-in-Ok c = checked c.args.tree c.in-Ok.file c.check_file.result c.in-Ok.ensures.ok c.check_file.ensures.verdict c.check_file.ensures.keeps
+returns-in-Ok c = counted c.args.tree c.in-Ok.checked c.only_counts.result c.in-Ok.ensures c.only_counts.ensures

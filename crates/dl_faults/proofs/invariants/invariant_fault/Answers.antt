@@ -1,6 +1,6 @@
 use Rattle.std.proofs.Common.{subst, sym, arith}
 use Rattle.dl_world.specs.Injected.{HooksAreDeclared}
-use Rattle.dl_faults.proofs.Kept.{hooks-declared}
+use Rattle.dl_faults.proofs.KeptPrograms.{hooks-declared}
 use Rattle.dl_faults.proofs.Stages.{invariant-told}
 use Rattle.dl_faults.proofs.invariants.invariant_fault.Goals as goal
 

@@ -1,5 +1,5 @@
 use Rattle.std.proofs.Common.{sym, ◌∙◌}
-use Rattle.dl_verdict.proofs.Answered.{of-obligations, refusal-answers}
+use Rattle.dl_verdict.proofs.Answered.{counted-answers, of-obligations, refusal-answers}
 use Rattle.dl_verdict.proofs.checked.answered.Goals as goal
 
 pub returns-in-Some : goal.returns-in-Some
@@ -7,5 +7,7 @@ returns-in-Some c =
     refusal-answers c.args.file.now c.in-Some.wrong c.refusal.result c.refusal.ensures
     (of-obligations c.args.file.now _ c.requires.worlds (sym c.requires.fault ∙ c.in-Some.is))
 
-pub accepted-requires-clause-none : goal.accepted-requires-clause-none
-accepted-requires-clause-none c = of-obligations c.args.file.now _ c.requires.worlds (sym c.requires.fault ∙ c.in-None.is)
+pub returns-in-None : goal.returns-in-None
+returns-in-None c =
+    counted-answers c.args.file.now c.accepted.result c.accepted.ensures.ok c.accepted.ensures.err
+    (of-obligations c.args.file.now _ c.requires.worlds (sym c.requires.fault ∙ c.in-None.is))

@@ -1,6 +1,6 @@
 use Rattle.std.proofs.Common.{◌≡◌, IfOk, ap, sym, subst, ◌∙◌}
 use Rattle.std.specs.List.{flat_map}
-use Rattle.dl_inv.specs.Duties.{duties_of}
+use Rattle.dl_faults.specs.Whole.{duties_of}
 use Rattle.dl_file.specs.declared.file.File.{File}
 use Rattle.dl_faults.specs.Wrong.{earliest}
 use Rattle.dl_faults.specs.Obligations.{duty_wrong}

@@ -1,7 +1,7 @@
 use Rattle.std.proofs.Common.{List, ap, ◌∙◌}
 use Rattle.std.specs.List.{flat_map}
 use Rattle.dl_sequent.specs.declared.duty.Duty.{Duty}
-use Rattle.dl_inv.specs.Duties.{duties_of}
+use Rattle.dl_faults.specs.Whole.{duties_of}
 use Rattle.dl_faults.specs.Wrong.{earliest}
 use Rattle.dl_faults.specs.Obligations.{duty_wrong, extra_wrong}
 use Rattle.dl_faults.proofs.Stages.{both-parts}

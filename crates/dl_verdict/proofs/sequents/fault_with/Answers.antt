@@ -3,19 +3,19 @@ use Rattle.dl_model.specs.declared.sequent.Sequent.{Sequent}
 use Rattle.dl_sequent.specs.Clean.{IsClean}
 use Rattle.dl_sequent.specs.Sizes.{is_too_large}
 use Rattle.dl_kernel.specs.Outcome.{fault}
-use Rattle.dl_inv.specs.Obligations.{sequent_of}
-use Rattle.dl_inv.specs.Taken.{MayTake}
+use Rattle.dl_faults.specs.Whole.{sequent_of}
 use Rattle.dl_faults.specs.Obligations.{script_wrong}
-use Rattle.dl_verdict.proofs.Judged.{found-large, found-small, proof-may}
+use Rattle.dl_verdict.proofs.Judged.{found-large, found-small, proof-takes}
+use Rattle.dl_verdict.specs.Code.{CanBuild}
 use Rattle.dl_verdict.proofs.sequents.fault_with.Goals as goal
 
 pub build-requires-clause-small : goal.build-requires-clause-small
 build-requires-clause-small c = c.requires.formed.decls.small
 
-pub build-requires-clause-taken : goal.build-requires-clause-taken
-build-requires-clause-taken c =
+pub build-requires-clause-can : goal.build-requires-clause-can
+build-requires-clause-can c =
     let file = c.args.known.now.file.now in
-    subst (MayTake file.decls c.args.duty) (sym c.as_slice.ensures) (proof-may file c.requires.formed c.args.duty c.args.proof.now c.requires.proof)
+    subst (CanBuild file.decls c.args.duty) (sym c.as_slice.ensures) (c.requires.built c.args.proof.now.names (proof-takes file c.requires.formed c.args.duty c.args.proof.now c.requires.proof))
 
 pub script_fault-requires-clause-formed : goal.script_fault-requires-clause-formed
 script_fault-requires-clause-formed c = c.requires.formed.decls.inst
@@ -24,7 +24,7 @@ pub script_fault-requires-clause-clean : goal.script_fault-requires-clause-clean
 script_fault-requires-clause-clean c =
     let file = c.args.known.now.file.now in
     subst IsClean (sym (c.in-Ok.ensures.made ∙ ap (sequent_of file.decls c.args.duty) c.as_slice.ensures))
-    (c.requires.clean c.args.proof.now.names (proof-may file c.requires.formed c.args.duty c.args.proof.now c.requires.proof))
+    (c.requires.clean c.args.proof.now.names (proof-takes file c.requires.formed c.args.duty c.args.proof.now c.requires.proof))
 
 pub returns-in-Ok : goal.returns-in-Ok
 returns-in-Ok c =

@@ -2,22 +2,22 @@ use Rattle.std.proofs.Common.{◌≡◌, Err, List, ℕ, true, ap, sym, subst, �
 use Rattle.dl_model.specs.declared.sequent.Sequent.{Sequent}
 use Rattle.dl_sequent.specs.Plain.{is_plain_sequent}
 use Rattle.dl_sequent.specs.Sizes.{is_too_large}
-use Rattle.dl_inv.specs.Obligations.{sequent_of}
-use Rattle.dl_inv.specs.Taken.{MayTake}
 use Rattle.dl_faults.specs.declared.wrong.Named.TheVariants.{Obligation}
 use Rattle.dl_faults.specs.Wrong.{naming, unless}
+use Rattle.dl_faults.specs.Whole.{sequent_of}
 use Rattle.dl_faults.specs.Obligations.{duty_place, spare_names}
 use Rattle.dl_faults.proofs.Proved.{spare-taken}
 use Rattle.dl_verdict.proofs.Judged.{found-large, found-small}
+use Rattle.dl_verdict.specs.Code.{CanBuild}
 use Rattle.dl_verdict.proofs.sequents.fault_without.Goals as goal
 
 pub build-requires-clause-small : goal.build-requires-clause-small
 build-requires-clause-small c = c.requires.formed.decls.small
 
-pub build-requires-clause-taken : goal.build-requires-clause-taken
-build-requires-clause-taken c =
+pub build-requires-clause-can : goal.build-requires-clause-can
+build-requires-clause-can c =
     let file = c.args.known.now.file.now in
-    subst (MayTake file.decls c.args.duty) (sym (c.as_slice.ensures ∙ c.in_ok-names.ensures)) (spare-taken file c.requires.formed c.args.duty)
+    subst (CanBuild file.decls c.args.duty) (sym (c.as_slice.ensures ∙ c.in_ok-names.ensures)) (c.requires.built (spare_names file c.args.duty) (spare-taken file c.requires.formed c.args.duty))
 
 pub returns-in-Ok : goal.returns-in-Ok
 returns-in-Ok c =

@@ -1,0 +1,11 @@
+use Rattle.std.proofs.Common.{◌≡◌}
+use Rattle.std.specs.List.{flat_map, enumerate_from}
+use Rattle.dl_faults.specs.Wrong.{joined, earliest}
+use Rattle.dl_faults.specs.Code.{label_wrong_among}
+use Rattle.dl_faults.proofs.Earliest.{to_come}
+use Rattle.dl_faults.proofs.spoken.labels_fault.Given as goal
+
+abbrev pub invariant-loop-n : goal.invariant-loop-n
+invariant-loop-n l =
+    joined l.found (to_come (label_wrong_among l.rule l.world l.whole l.places) l.labels l.n)
+    ≡ earliest (flat_map (label_wrong_among l.rule l.world l.whole l.places) (enumerate_from 0 l.labels))

@@ -1,0 +1,3 @@
+pub mod Sized
+mod Backwards
+pub mod Finding
