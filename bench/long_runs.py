@@ -49,29 +49,33 @@ LIMITS = """(disel 1
 """
 
 
-def pingpong(exchanges):
-    """Two nodes that exchange so many messages each way, a multiple of 100."""
+def pingpong(exchanges, a_turn=IN_A_TURN):
+    """Two nodes that exchange so many messages each way, a multiple of those in a turn of their loops."""
     one = "(send true g ping b) (await true g pong f ())\n    "
     two = "(await true g ping f ()) (send (= (get g seen me) 1) g pong a)\n    "
-    return GAME % {"turns": exchanges // IN_A_TURN, "one": one * IN_A_TURN, "two": two * IN_A_TURN}
+    return GAME % {"turns": exchanges // a_turn, "one": one * a_turn, "two": two * a_turn}
 
 
 def first_line(budget, order):
     return "run budget %d order %s\n" % (budget, order)
 
 
-def pingpong_report(exchanges, budget):
+def units(exchanges, a_turn):
+    """The ticks and calls of each of the two nodes."""
+    return 2 * exchanges + 2 * (exchanges // a_turn) + 2
+
+
+def pingpong_report(exchanges, budget, a_turn=IN_A_TURN):
     """Its report where the budget is enough, line by line."""
     yield first_line(budget, "oldest")
     for at in range(exchanges):
-        ticks = 0 if at % IN_A_TURN else 2 if at else 1
+        ticks = 0 if at % a_turn else 2 if at else 1
         yield "%d a %d send g.ping b -> %d\n" % (4 * at + 1, ticks, 2 * at)
         yield "%d b %d await g.ping -> %d from a\n" % (4 * at + 2, ticks, 2 * at)
         yield "%d b 0 send g.pong a -> %d\n" % (4 * at + 3, 2 * at + 1)
         yield "%d a 0 await g.pong -> %d from b\n" % (4 * at + 4, 2 * at + 1)
-    units = 2 * exchanges + 2 * (exchanges // IN_A_TURN) + 2
     for node in "ab":
-        yield "end %s ended 0 units %d\n" % (node, units)
+        yield "end %s ended 0 units %d\n" % (node, units(exchanges, a_turn))
 
 
 def flood(messages):
@@ -134,11 +138,11 @@ def limits_report(budget):
         yield "end %s spent units %d\n" % (node, budget)
 
 
-def promela(exchanges):
-    """The game of ping and pong as a model for spin."""
+def promela(exchanges, a_turn=1):
+    """The game of ping and pong as a model for spin, with so many exchanges in a turn of its loops."""
     return """chan ping = [1] of { byte };
 chan pong = [1] of { byte };
 bit seen = 0;
-active proctype a() { int i = 0; do :: i < %d -> ping!1; pong?_; i++ :: else -> break od }
-active proctype b() { int i = 0; do :: i < %d -> ping?_; seen = 1; pong!1; i++ :: else -> break od }
-""" % (exchanges, exchanges)
+active proctype a() { int i = 0; do :: i < %(turns)d -> %(one)si++ :: else -> break od }
+active proctype b() { int i = 0; do :: i < %(turns)d -> %(two)si++ :: else -> break od }
+""" % {"turns": exchanges // a_turn, "one": "ping!1; pong?_; " * a_turn, "two": "ping?_; seen = 1; pong!1; " * a_turn}

@@ -1,10 +1,9 @@
 -- What the schedule does to the trace of each node.
-use Rattle.std.proofs.Common.{◌≡◌, ◌<◌, ◌≤◌, ◌+◌, ◌-◌, ◌%◌, ◌/◌, ◌^◌, ◌==◌, ℕ, zero, suc, pos, Bool, true, false, ◌||◌, cond, Option, Some, None, List, [], ◌∷◌, ◌++◌, length, map, refl, ap, sym, ◌∙◌, subst, arith}
-use Rattle.std.proofs.Common.{eq-eqb, get_or, mod-lt}
-use Rattle.std.specs.List.{AllByRecursion as Each, AllZip, last_or, range_with_len}
+use Rattle.std.proofs.Common.{◌≡◌, ◌<◌, ◌≤◌, ◌+◌, ◌-◌, ◌==◌, ℕ, zero, suc, pos, Bool, true, false, ◌||◌, cond, Option, Some, None, List, [], ◌∷◌, ◌++◌, map, refl, ap, sym, ◌∙◌, subst, arith}
+use Rattle.std.proofs.Common.{eq-eqb}
+use Rattle.std.specs.List.{AllByRecursion as Each, AllZip, range_with_len}
 use Rattle.std.proofs.lemmas.Bool.{eqb-false, eqb-true}
 use Rattle.std.proofs.lemmas.List.Elements.{filter-append}
-use Rattle.std.proofs.lemmas.Option.{slice_get-get_or}
 use Rattle.dl_term.specs.State.{State}
 use Rattle.dl_model.specs.declared.file.Decls.{Decls}
 use Rattle.dl_model.specs.declared.file.Program.{Program}
@@ -12,10 +11,9 @@ use Rattle.dl_model.specs.declared.history.Call.{Call}
 use Rattle.dl_model.specs.declared.history.Call.TheVariants as call
 use Rattle.dl_model.specs.declared.history.Entry.{Entry}
 use Rattle.dl_model.specs.declared.history.Order.{Order}
-use Rattle.dl_model.specs.declared.history.Order.TheVariants.{Oldest, Newest, Seed}
 use Rattle.dl_model.specs.declared.program.Proc.{Proc}
 use Rattle.dl_model.specs.declared.protocol.Instances.{Instances}
-use Rattle.dl_model.specs.Delivery.{IsUnder, choice, drawn, matches}
+use Rattle.dl_model.specs.Delivery.{IsUnder}
 use Rattle.dl_model.specs.Ends.{Rest, after_ticks, end_at, end_of, if_tick, units_of}
 use Rattle.dl_model.specs.Formed.{AreDistinct, IsFormed}
 use Rattle.dl_model.specs.Histories.{HasProgram, IsTrace, SoupLeads, condensed_from, is_wait, is_wait_of, mine, with_ticks}
@@ -27,13 +25,14 @@ use Rattle.dl_model.specs.States.{first_state}
 use Rattle.dl_state.specs.Shapes.{shape_state}
 use Rattle.dl_model.proofs.Small.{each-map, eqb-other, or-both, or-left, or-right}
 use Rattle.dl_soup.specs.Kept.{IsKept}
-use Rattle.dl_soup.specs.Replies.{acted, entry_of, got_or_miss, has_any, receives_in, reply_of}
+use Rattle.dl_soup.specs.Replies.{acted, can_call, entry_of, reply_of}
 use Rattle.dl_soup.specs.Seen.{Seen}
+use Rattle.dl_soup.proofs.WaitLemmas.{call-no-wait}
 use Rattle.dl_nodes.specs.declared.bare.Bare.{Bare}
 use Rattle.dl_nodes.specs.declared.begin.Run.{Run}
 use Rattle.dl_nodes.specs.Begun.{IsFirst, IsSerialRun, first_player, first_players, first_players_of}
 use Rattle.dl_nodes.specs.Players.{HasEnd, SoupIsSame}
-use Rattle.dl_nodes.specs.Serial.{Player, Rounds, asked, call_of, called, can_call, if_can, left_of, round_of, ticked, turn_of}
+use Rattle.dl_nodes.specs.Serial.{Player, Rounds, asked, call_of, called, if_can, left_of, round_of, ticked, turn_of}
 use Rattle.dl_nodes.specs.Traced.{Comes, EndsTraced, IsTraced}
 use Rattle.dl_nodes.proofs.FormedLemmas.{node-known}
 use Rattle.dl_nodes.proofs.RoundLemmas.{serial-keeps}
@@ -162,32 +161,6 @@ come-other procs budget start entries entry q other h =
       count = h.count ∙ ap (λ (es : List Entry). units_of es + q.ticks) same;
       few = h.few;
     }
-
--- ---- a call is no wait
-
-last-some : (o : Option ℕ) (x : ℕ) (xs : List ℕ) → (y : ℕ) × (last_or o (x ∷ xs) ≡ Some y)
-last-some o x [] = (x, refl)
-last-some o x (y ∷ xs) = last-some (Some x) y xs
-
-choice-some : (order : Order) (receives id : ℕ) (ids : List ℕ) → (x : ℕ) × (choice order receives (id ∷ ids) ≡ Some x)
-choice-some Oldest receives id ids = (id, refl)
-choice-some Newest receives id ids = last-some None id ids
-choice-some (Seed seed) receives id ids =
-    let some : 0 < length (id ∷ ids) = omega arith in
-    let within : (drawn seed (suc receives) / (2 ^ 33)) % length (id ∷ ids) < length (id ∷ ids) = mod-lt (drawn seed (suc receives) / (2 ^ 33)) some in
-    (get_or (id ∷ ids) ((drawn seed (suc receives) / (2 ^ 33)) % length (id ∷ ids)) 0, slice_get-get_or (id ∷ ids) ((drawn seed (suc receives) / (2 ^ 33)) % length (id ∷ ids)) 0 within)
-
-await-got : (state : State) (label tag receives : ℕ) (order : Order) (ids : List ℕ) → has_any ids ≡ true → is_wait_of (call.Await label tag) (got_or_miss state label (choice order receives ids)) ≡ false
-await-got state label tag receives order [] h = cc
-await-got state label tag receives order (id ∷ ids) h =
-    let taken = choice-some order receives id ids in
-    ap (λ (o : Option ℕ). is_wait_of (call.Await label tag) (got_or_miss state label o)) taken.1
-
-call-no-wait : (soup : Seen) (node : ℕ) (call : Call) → can_call soup node call ≡ true → is_wait_of call (reply_of soup node call) ≡ false
-call-no-wait soup node (call.Send label tag to args) h = refl
-call-no-wait soup node (call.Poll label tag) h = refl
-call-no-wait soup node (call.Await label tag) h = await-got soup.state label tag (receives_in soup.history) soup.order (matches soup.inst soup.state node label tag) h
-call-no-wait soup node (call.Read label field index) h = refl
 
 -- ---- a turn
 

@@ -11,12 +11,12 @@ use Rattle.dl_prog.specs.Moves.{answer_of, moved}
 use Rattle.dl_prog.specs.Places.{machine_of}
 use Rattle.dl_prog.specs.Ready.{IsReady}
 use Rattle.dl_soup.specs.Seen.{Seen}
-use Rattle.dl_soup.specs.Replies.{reply_of}
+use Rattle.dl_soup.specs.Replies.{acted, can_call, reply_of}
 use Rattle.dl_nodes.specs.declared.bare.Bare.{Bare}
 use Rattle.dl_nodes.specs.Given.{MachineIsGiven, ProcsAreGiven}
-use Rattle.dl_nodes.specs.Players.{BareIsReady, player_of}
+use Rattle.dl_nodes.specs.Players.{BareIsReady, entries_of, player_of}
 use Rattle.dl_nodes.specs.Turns.{Stands, TurnIsMade}
-use Rattle.dl_nodes.specs.Serial.{Player, asked, call_of, called, can_call, if_can, left_of, ticked, turn_of}
+use Rattle.dl_nodes.specs.Serial.{Player, Turn, asked, call_of, called, if_can, left_of, ticked, turn_of}
 use Rattle.dl_nodes.proofs.TickLemmas.{asked-none, spent-still, still-at, tick-more, told-call, told-end, told-stop, told-tick}
 use Rattle.dl_nodes.proofs.GivenLemmas.{reply-given, tick-given}
 
@@ -100,6 +100,11 @@ ticks-go procs inst budget first bare new cont given h less ready told moves mad
     subst (λ (b : Bare). TicksSoFar procs inst budget first b) (sym made)
     (record { way = tick-step procs inst budget (ticked procs budget (player_of procs first)) bare cont given h.way less ready told moves; units = more })
 
+-- the soup is as it was
+pub record TurnSoFar (procs : List Proc) (soup now : Seen) (budget : ℕ) (first bare : Bare) : Type 0 where
+  pub same : now ≡ soup
+  pub ticks : TicksSoFar procs now.inst budget first bare
+
 pub calls-no-tick : (n : Next) (call : Call) → at.Call call ≡ answer_of n → (m : Machine) → n ≡ Ticks m → ⊥
 calls-no-tick n call e m f = let asks : n ≡ Asks call = told-call n call e in cc
 
@@ -143,22 +148,11 @@ spent-asked procs budget bare more =
 
 -- ---- the turn
 
-can-not : (b : Bool) (call : Call) → b ≡ false → cond b (Some call) None ≡ None
-can-not true call e = cc
-can-not false call e = refl
-
-can : (b : Bool) (call : Call) → b ≡ true → cond b (Some call) None ≡ Some call
-can true call e = refl
-can false call e = cc
-
-pub asks-and-can : (procs : List Proc) (budget : ℕ) (soup : Seen) (p : Player) (call : Call) → Some call ≡ asked (left_of budget p) (next procs p.machine) → can_call soup p.node call ≡ true → call_of procs budget soup p ≡ Some call
-asks-and-can procs budget soup p call e h = ap (if_can soup p.node) (sym e) ∙ can (can_call soup p.node call) call h
-
-pub asks-and-cannot : (procs : List Proc) (budget : ℕ) (soup : Seen) (p : Player) (call : Call) → Some call ≡ asked (left_of budget p) (next procs p.machine) → can_call soup p.node call ≡ false → call_of procs budget soup p ≡ None
-asks-and-cannot procs budget soup p call e h = ap (if_can soup p.node) (sym e) ∙ can-not (can_call soup p.node call) call h
-
 pub asks-nothing : (procs : List Proc) (budget : ℕ) (soup : Seen) (p : Player) → None ≡ asked (left_of budget p) (next procs p.machine) → call_of procs budget soup p ≡ None
 asks-nothing procs budget soup p e = ap (if_can soup p.node) (sym e)
+
+asks-call : (procs : List Proc) (budget : ℕ) (soup : Seen) (p : Player) (call : Call) → Some call ≡ asked (left_of budget p) (next procs p.machine) → call_of procs budget soup p ≡ if_can soup p.node (Some call)
+asks-call procs budget soup p call e = ap (if_can soup p.node) (sym e)
 
 -- the turn of a node that stands at a call, or at none
 pub turn-at : (procs : List Proc) (budget : ℕ) (soup : Seen) (p here : Player) (o : Option Call) → here ≡ ticked procs budget p → call_of procs budget soup here ≡ o → called soup here o ≡ turn_of procs budget soup p
@@ -199,18 +193,38 @@ none-made procs budget soup before bare h more none = record {
 pub call-has-room : (budget spare : ℕ) (before bare : Bare) → before.units ≤ bare.units → bare.units < budget → budget - before.units ≤ spare → 0 < spare
 call-has-room budget spare before bare more less room = omega arith
 
-pub call-made : (procs : List Proc) (budget : ℕ) (soup after : Seen) (before bare new : Bare) (call : Call) → Stands procs soup.inst budget (ticked procs budget (player_of procs before)) bare → before.units ≤ bare.units
-    → call_of procs budget soup (player_of procs bare) ≡ Some call → bare.units < budget → 0 < soup.spare → BareIsReady procs soup.inst budget new
-    → after ≡ (called soup (player_of procs bare) (Some call)).soup → player_of procs new ≡ (called soup (player_of procs bare) (Some call)).player
-    → TurnIsMade procs budget soup after before new true
-call-made procs budget soup after before bare new call h more asks less room ready soups players =
-    let spare : after.spare ≡ soup.spare - 1 = ap (λ (s : Seen). s.spare) soups in
-    let units : new.units ≡ bare.units + 1 = ap (λ (p : Player). p.units) players in
+called-inst : (soup : Seen) (p : Player) (o : Option Call) → (called soup p o).soup.inst ≡ soup.inst
+called-inst soup p (Some call) = refl
+called-inst soup p None = refl
+
+called-spare : (soup : Seen) (p : Player) (o : Option Call) → 0 < soup.spare → (called soup p o).soup.spare + entries_of (called soup p o).acts ≡ soup.spare
+called-spare soup p (Some call) h = omega arith
+called-spare soup p None h = omega arith
+
+called-units : (soup : Seen) (p : Player) (o : Option Call) → (called soup p o).player.units ≡ p.units + entries_of (called soup p o).acts
+called-units soup p (Some call) = refl
+called-units soup p None = omega arith
+
+few-entries : (b : Bool) → entries_of b ≤ 1
+few-entries true = omega arith
+few-entries false = omega arith
+
+pub call-made : (procs : List Proc) (budget : ℕ) (soup after : Seen) (before bare new : Bare) (call : Call) (acts : Bool) → Stands procs soup.inst budget (ticked procs budget (player_of procs before)) bare → before.units ≤ bare.units
+    → Some call ≡ asked (left_of budget (player_of procs bare)) (next procs (machine_of procs bare.cont)) → bare.units < budget → 0 < soup.spare → BareIsReady procs soup.inst budget new
+    → ◌≡◌ {A = Turn} (record { soup = after; player = player_of procs new; acts = acts }) (called soup (player_of procs bare) (if_can soup bare.node (Some call)))
+    → TurnIsMade procs budget soup after before new acts
+call-made procs budget soup after before bare new call acts h more asks less room ready turn =
+    let p = player_of procs bare in
+    let o = if_can soup bare.node (Some call) in
+    let spare : after.spare + entries_of acts ≡ soup.spare = ap (λ (t : Turn). t.soup.spare + entries_of t.acts) turn ∙ called-spare soup p o room in
+    let same : entries_of acts ≡ entries_of (called soup p o).acts = ap (λ (t : Turn). entries_of t.acts) turn in
+    let units : new.units ≡ bare.units + entries_of acts = ap (λ (t : Turn). t.player.units) turn ∙ called-units soup p o ∙ ap (λ (n : ℕ). bare.units + n) (sym same) in
+    let few : entries_of acts ≤ 1 = few-entries acts in
     record {
       ready = ready;
-      whole = (λ i. record { soup = soups i; player = players i; acts = true }) ∙ turn-at procs budget soup (player_of procs before) (player_of procs bare) (Some call) h.is asks;
-      same = ap (λ (s : Seen). s.inst) soups;
-      spare = omega arith;
+      whole = turn ∙ turn-at procs budget soup (player_of procs before) p o h.is (asks-call procs budget soup p call asks);
+      same = ap (λ (t : Turn). t.soup.inst) turn ∙ called-inst soup p o;
+      spare = spare;
       left = omega arith;
     }
 
@@ -225,7 +239,35 @@ called-ready procs inst budget bare cont reply h less ready moves = record {
   ticks = omega arith;
 }
 
-pub called-player : (procs : List Proc) (soup : Seen) (bare : Bare) (cont : Cont) (call : Call) (reply : Reply) → reply ≡ reply_of soup bare.node call → machine_of procs cont ≡ after_reply (machine_of procs bare.cont) reply
+called-player : (procs : List Proc) (soup : Seen) (bare : Bare) (cont : Cont) (call : Call) (reply : Reply) → reply ≡ reply_of soup bare.node call → machine_of procs cont ≡ after_reply (machine_of procs bare.cont) reply
     → player_of procs (record { node = bare.node; cont = cont; ticks = 0; units = bare.units + 1; end = bare.end }) ≡ (called soup (player_of procs bare) (Some call)).player
 called-player procs soup bare cont call reply told moves =
     λ i. record { node = bare.node; machine = (moves ∙ ap (after_reply (machine_of procs bare.cont)) told) i; ticks = 0; units = bare.units + 1 }
+
+-- ---- the call, if it is made
+
+ready-some : (b : Bool) (reply made : Reply) → Some reply ≡ cond b (Some made) None → (b ≡ true) × (reply ≡ made)
+ready-some true reply made e = let same : reply ≡ made = cc in (refl, same)
+ready-some false reply made e = cc
+
+ready-none : (b : Bool) (made : Reply) → None ≡ cond b (Some made) None → b ≡ false
+ready-none true made e = cc
+ready-none false made e = refl
+
+pub is-called : (procs : List Proc) (soup after : Seen) (bare : Bare) (cont : Cont) (call : Call) (reply : Reply) → Some reply ≡ cond (can_call soup bare.node call) (Some (reply_of soup bare.node call)) None
+    → after ≡ cond (can_call soup bare.node call) (acted soup bare.node bare.ticks call) soup → machine_of procs cont ≡ after_reply (machine_of procs bare.cont) reply
+    → ◌≡◌ {A = Turn} (record { soup = after; player = player_of procs (record { node = bare.node; cont = cont; ticks = 0; units = bare.units + 1; end = bare.end }); acts = true }) (called soup (player_of procs bare) (if_can soup bare.node (Some call)))
+is-called procs soup after bare cont call reply told is moves =
+    let both = ready-some (can_call soup bare.node call) reply (reply_of soup bare.node call) told in
+    let made : after ≡ acted soup bare.node bare.ticks call = is ∙ ap (λ (b : Bool). cond b (acted soup bare.node bare.ticks call) soup) both.0 in
+    (λ i. record { soup = made i; player = called-player procs soup bare cont call reply both.1 moves i; acts = true })
+    ∙ ap (λ (b : Bool). called soup (player_of procs bare) (cond b (Some call) None)) (sym both.0)
+
+pub is-not-called : (procs : List Proc) (soup after : Seen) (bare : Bare) (call : Call) → None ≡ cond (can_call soup bare.node call) (Some (reply_of soup bare.node call)) None
+    → after ≡ cond (can_call soup bare.node call) (acted soup bare.node bare.ticks call) soup
+    → ◌≡◌ {A = Turn} (record { soup = after; player = player_of procs bare; acts = false }) (called soup (player_of procs bare) (if_can soup bare.node (Some call)))
+is-not-called procs soup after bare call told is =
+    let waits : can_call soup bare.node call ≡ false = ready-none (can_call soup bare.node call) (reply_of soup bare.node call) told in
+    let same : after ≡ soup = is ∙ ap (λ (b : Bool). cond b (acted soup bare.node bare.ticks call) soup) waits in
+    (λ i. record { soup = same i; player = player_of procs bare; acts = false })
+    ∙ ap (λ (b : Bool). called soup (player_of procs bare) (cond b (Some call) None)) (sym waits)

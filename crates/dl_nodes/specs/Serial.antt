@@ -1,13 +1,11 @@
 -- The serial schedule: rounds in which each node with a program has one turn, in the order of the node list.
 use Rattle.std.specs.Prelude.{◌≡◌, ℕ, zero, suc, ◌+◌, ◌-◌, Bool, true, false, ◌||◌, if◌then◌else◌, Option, Some, None, List, [], ◌∷◌}
 use Rattle.dl_model.specs.declared.history.Call.{Call}
-use Rattle.dl_model.specs.declared.history.Call.TheVariants as call
 use Rattle.dl_model.specs.declared.program.Proc.{Proc}
 use Rattle.dl_model.specs.Machine.{Machine, Next, Ticks, Asks, Ends, Stops, next, after_reply}
-use Rattle.dl_model.specs.Delivery.{matches}
 use Rattle.dl_model.specs.Ends.{Rest, after_ticks}
 use Rattle.dl_soup.specs.Seen.{Seen}
-use Rattle.dl_soup.specs.Replies.{acted, reply_of, has_any}
+use Rattle.dl_soup.specs.Replies.{acted, can_call, reply_of}
 
 -- A node with a program: its machine, its ticks since its last entry, and its units.
 pub record Player : Type 0 where
@@ -44,12 +42,6 @@ asked (suc left) (Ends result) = None
 asked (suc left) Stops = None
 
 -- an await is made only where there is a match
-abbrev pub can_call : Seen → ℕ → Call → Bool
-can_call soup node (call.Send label tag to args) = true
-can_call soup node (call.Poll label tag) = true
-can_call soup node (call.Await label tag) = has_any (matches soup.inst soup.state node label tag)
-can_call soup node (call.Read label field index) = true
-
 abbrev pub if_can : Seen → ℕ → Option Call → Option Call
 if_can soup node (Some call) = if can_call soup node call then Some call else None
 if_can soup node None = None

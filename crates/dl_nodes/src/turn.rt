@@ -1,21 +1,20 @@
 //! A node's turn.
 
 ghost use Rattle.std.specs.Prelude.{◌≡◌, ◌≤◌, ◌<◌, ◌-◌, ◌+◌, ◌^◌, Some};
-ghost use Rattle.dl_model.specs.Machine.{next};
-ghost use Rattle.dl_prog.specs.Places.{machine_of};
 ghost use Rattle.dl_prog.specs.Ready.{ProcsCanRun};
 ghost use Rattle.dl_soup.specs.Given.{CallIsGiven};
 ghost use Rattle.dl_nodes.specs.Given.{ProcsAreGiven};
 ghost use Rattle.dl_nodes.specs.Players.{BareIsReady, player_of};
-ghost use Rattle.dl_nodes.specs.Serial.{asked, called, can_call, left_of, ticked};
-ghost use Rattle.dl_nodes.specs.Turns.{Stands, TurnIsMade};
+ghost use Rattle.dl_nodes.specs.Serial.{Turn, called, if_can};
+ghost use Rattle.dl_nodes.specs.Turns.{TurnIsMade};
 
 use crate::bare::Bare;
 use dl_model::{Call, Proc};
 use dl_prog::At;
 use dl_soup::Soup;
 
-// Makes a node's turn, and says whether there is a new entry.
+// Makes a node's turn, and says whether there is a new entry: takes the ticks up to a call, an end or the budget, and makes
+// the call, if it is made.
 pub(crate) fn take_turn(soup: &mut Soup, procs: &[Proc], budget: u32, bare: &mut Bare) -> bool
     requires can_run { ProcsCanRun procs.now }
     requires given { ProcsAreGiven soup.old.inst procs.now }
@@ -23,35 +22,16 @@ pub(crate) fn take_turn(soup: &mut Soup, procs: &[Proc], budget: u32, bare: &mut
     requires room { budget - bare.old.units ≤ soup.old.spare }
     ensures { TurnIsMade procs.now budget soup.old soup.new bare.old bare.new result }
 {
-    let Some(call) = run_ticks(soup, procs, budget, bare) else {
-        return false;
-    };
-    let can = can_call(soup, bare.node, &call);
-    if can {
-        make_call(soup, procs, budget, bare, &call);
-        return true;
-    }
-    false
-}
-
-// Takes the node's ticks up to a call, an end or the budget, and answers the call that the machine asks for there.
-fn run_ticks(soup: &Soup, procs: &[Proc], budget: u32, bare: &mut Bare) -> Option<Call>
-    requires can_run { ProcsCanRun procs.now }
-    requires given { ProcsAreGiven soup.now.inst procs.now }
-    requires ready { BareIsReady procs.now soup.now.inst budget bare.old }
-    ensures stands { Stands procs.now soup.now.inst budget (ticked procs.now budget (player_of procs.now bare.old)) bare.new }
-    ensures units { bare.old.units ≤ bare.new.units }
-    ensures call { result ≡ asked (left_of budget (player_of procs.now bare.new)) (next procs.now (machine_of procs.now bare.new.cont)) }
-{
     while bare.units < budget {
-        match bare.cont.advance(procs) {
+        let at = bare.cont.advance(procs);
+        match &at {
             At::Tick => count_tick(bare),
-            At::Call(call) => return Some(call),
-            At::Ended(_value) => return None,
-            At::Stopped => return None,
+            At::Call(call) => return make_call(soup, procs, budget, bare, call),
+            At::Ended(_value) => return false,
+            At::Stopped => return false,
         }
     }
-    None
+    false
 }
 
 // Counts a tick.
@@ -64,31 +44,26 @@ fn count_tick(bare: &mut Bare)
     bare.units += 1;
 }
 
-// Whether the call is made: an await is only where there is a match.
-fn can_call(soup: &Soup, node: u32, call: &Call) -> bool
-    ensures { result ≡ can_call soup.now node call.now }
-{
-    match call {
-        Call::Send { .. } => true,
-        Call::Poll { .. } => true,
-        Call::Await { label, tag } => soup.ready(node, *label, *tag),
-        Call::Read { .. } => true,
-    }
-}
-
-// Makes the call that the machine asks for, and takes the reply.
-fn make_call(soup: &mut Soup, procs: &[Proc], budget: u32, bare: &mut Bare, call: &Call)
+// Makes the call that the machine asks for and takes the reply, if the call is made, and says whether it is.
+fn make_call(soup: &mut Soup, procs: &[Proc], budget: u32, bare: &mut Bare, call: &Call) -> bool
     requires can_run { ProcsCanRun procs.now }
     requires ready { BareIsReady procs.now soup.old.inst budget bare.old }
     requires given { CallIsGiven soup.old.inst bare.old.node call.now }
     requires left { bare.old.units < budget }
     requires room { 0 < soup.old.spare }
     ensures ready { BareIsReady procs.now soup.old.inst budget bare.new }
-    ensures soup { soup.new ≡ (called soup.old (player_of procs.now bare.old) (Some call.now)).soup }
-    ensures player { player_of procs.now bare.new ≡ (called soup.old (player_of procs.now bare.old) (Some call.now)).player }
+    ensures turn { ◌≡◌ {A = Turn} (record { soup = soup.new; player = player_of procs.now bare.new; acts = result }) (called soup.old (player_of procs.now bare.old) (if_can soup.old bare.old.node (Some call.now))) }
 {
-    let reply = soup.act(bare.node, bare.ticks, call);
-    bare.cont.resume(procs, &reply);
+    let made = soup.act_ready(bare.node, bare.ticks, call).is_some();
+    if !made {
+        return false;
+    }
+    // the reply is read where it stays, since a copy of it would cost much of a call
+    let Some(entry) = soup.history().last() else {
+        return false;
+    };
+    bare.cont.resume(procs, &entry.reply);
     bare.ticks = 0;
     bare.units += 1;
+    true
 }

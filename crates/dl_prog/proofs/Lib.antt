@@ -4,3 +4,4 @@ pub mod PlaceLemmas
 pub mod Moving
 pub mod Replying
 pub mod FormedLemmas
+pub mod Asking

@@ -3,3 +3,4 @@ pub mod Stack
 pub mod Places
 pub mod Ready
 pub mod Moves
+pub mod Asked

@@ -4,15 +4,16 @@ ghost use Rattle.std.specs.Prelude.{◌≡◌, ◌<◌, [], suc, pos, None, leng
 ghost use Rattle.dl_model.specs.Lookup.{proc_at};
 ghost use Rattle.dl_model.specs.Machine.{Working, entered, next, after_reply};
 ghost use Rattle.dl_prog.specs.Moves.{answer_of, moved};
-ghost use Rattle.dl_prog.specs.Places.{back_of, machine_in, machine_of};
+ghost use Rattle.dl_prog.specs.Places.{back_of, commands_in, machine_in, machine_of};
 ghost use Rattle.dl_prog.specs.Ready.{ProcsCanRun, IsReady, IsSettled, room_below};
 
 use crate::answer::At;
+use crate::asked::{Asked, asked_at};
 use crate::place::{command_at, commands_in, locals_of, params_of};
 use crate::room::room_below;
 use crate::slots::{Slot, entry_slots, no_slots};
 use crate::stack::{Stack, Step};
-use dl_model::{Proc, Reply};
+use dl_model::{Args, Call, Command, Proc, Reply};
 use std::alloc::{AllocError, Global};
 
 // More steps than this are answered as want of memory.
@@ -81,8 +82,20 @@ impl Cont {
         match self.over {
             Some(value) => At::Ended(value),
             None => {
-                self.settle(procs);
-                self.step(procs)
+                let commands = self.settle(procs);
+                match asked_at(commands, self.at, &self.slots) {
+                    Asked::Send { label, tag, to } => At::Call(Call::Send {
+                        label,
+                        tag,
+                        to,
+                        args: Args {
+                            count: 0,
+                            values: [0; 8],
+                        },
+                    }),
+                    Asked::Await { label, tag } => At::Call(Call::Await { label, tag }),
+                    Asked::Other => self.step(procs, commands),
+                }
             }
         }
     }
@@ -99,57 +112,81 @@ impl Cont {
         match self.over {
             Some(_) => {}
             None => {
-                self.settle(procs);
-                self.take(procs, reply);
+                let commands = self.settle(procs);
+                self.take(procs, commands, reply);
             }
         }
     }
 
-    // Leaves the commands that are all made, as long as they stand in others.
-    pub(crate) fn settle(&mut self, procs: &[Proc])
+    // Leaves the commands that are all made, as long as they stand in others. It answers those that it is then in, so that
+    // nobody has to go along the path for them once more. Mostly there are commands left, and it stays.
+    #[inline(always)]
+    pub(crate) fn settle<'a>(&mut self, procs: &'a [Proc]) -> &'a [Command]
         requires ready { IsReady procs.now self.old }
         ensures ready { IsReady procs.now self.new }
         ensures over { self.new.over ≡ self.old.over }
         ensures same { machine_in procs.now self.new.steps.items self.new.at self.new.slots ≡ machine_in procs.now self.old.steps.items self.old.at self.old.slots }
         ensures settled { IsSettled procs.now self.new }
+        ensures commands { result.now ≡ commands_in procs.now self.new.steps.items }
     {
-        if self.at < commands_in(procs, self.steps.steps()).len() {
-            return;
+        let commands = commands_in(procs, self.steps.steps());
+        if self.at < commands.len() {
+            return commands;
+        }
+        self.leave_made(procs)
+    }
+
+    // The same, a step of the path at a time.
+    fn leave_made<'a>(&mut self, procs: &'a [Proc]) -> &'a [Command]
+        requires ready { IsReady procs.now self.old }
+        ensures ready { IsReady procs.now self.new }
+        ensures over { self.new.over ≡ self.old.over }
+        ensures same { machine_in procs.now self.new.steps.items self.new.at self.new.slots ≡ machine_in procs.now self.old.steps.items self.old.at self.old.slots }
+        ensures settled { IsSettled procs.now self.new }
+        ensures commands { result.now ≡ commands_in procs.now self.new.steps.items }
+    {
+        let commands = commands_in(procs, self.steps.steps());
+        if self.at < commands.len() {
+            return commands;
         }
         let Some(back) = outer_position(self.steps.steps()) else {
-            return;
+            return commands;
         };
         self.steps.pop();
         self.at = back;
-        self.settle(procs);
+        self.leave_made(procs)
     }
 
-    // Makes the next tick, or says what the machine is at.
-    fn step(&mut self, procs: &[Proc]) -> At
+    // Makes the next tick, or says what the machine is at, where the path leads into these commands.
+    #[inline(never)]
+    fn step(&mut self, procs: &[Proc], commands: &[Command]) -> At
         requires can_run { ProcsCanRun procs.now }
         requires ready { IsReady procs.now self.old }
         requires over { self.old.over ≡ None }
         requires settled { IsSettled procs.now self.old }
+        requires commands { commands.now ≡ commands_in procs.now self.old.steps.items }
         ensures ready { IsReady procs.now self.new }
         ensures answer { result ≡ answer_of (next procs.now (machine_of procs.now self.old)) }
         ensures moves { machine_of procs.now self.new ≡ moved (machine_of procs.now self.old) (next procs.now (machine_of procs.now self.old)) }
     {
-        match command_at(commands_in(procs, self.steps.steps()), self.at) {
+        match command_at(commands, self.at) {
             Some(command) => self.make_command(procs, command),
             None => self.leave(procs),
         }
     }
 
-    // Takes a reply.
-    fn take(&mut self, procs: &[Proc], reply: &Reply)
+    // Takes a reply, where the path leads into these commands.
+    #[inline(always)]
+    fn take(&mut self, procs: &[Proc], commands: &[Command], reply: &Reply)
         requires can_run { ProcsCanRun procs.now }
         requires ready { IsReady procs.now self.old }
         requires over { self.old.over ≡ None }
         requires settled { IsSettled procs.now self.old }
+        requires commands { commands.now ≡ commands_in procs.now self.old.steps.items }
         ensures ready { IsReady procs.now self.new }
         ensures moves { machine_of procs.now self.new ≡ after_reply (machine_of procs.now self.old) reply.now }
     {
-        match command_at(commands_in(procs, self.steps.steps()), self.at) {
+        match command_at(commands, self.at) {
             Some(command) => self.take_at(procs, command, reply),
             None => {}
         }

@@ -5,6 +5,7 @@
 #![tactic(auto)]
 
 mod answer;
+mod asked;
 mod cont;
 mod laws;
 mod moves;

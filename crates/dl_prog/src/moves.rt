@@ -16,7 +16,7 @@ ghost use Rattle.dl_prog.specs.Slots.{named, put_all};
 
 use crate::answer::At;
 use crate::cont::Cont;
-use crate::place::{commands_in, locals_of, params_of, proc_in};
+use crate::place::{locals_of, params_of, proc_in};
 use crate::slots::{ME, Slot, entry_slots, no_slots, number_of, put};
 use crate::stack::Step;
 use crate::values::{index_of, number, numbers, passes};
@@ -190,8 +190,8 @@ impl Cont {
             None => self.over = Some(value),
             Some(back) => {
                 self.go_back(back);
-                self.settle(procs);
-                self.finish_call(procs, value);
+                let commands = self.settle(procs);
+                self.finish_call(procs, commands, value);
             }
         }
     }
@@ -207,16 +207,17 @@ impl Cont {
         self.slots = slots;
     }
 
-    // Takes what a call has returned.
-    fn finish_call(&mut self, procs: &[Proc], value: i64)
+    // Takes what a call has returned, where the path leads into these commands.
+    fn finish_call(&mut self, procs: &[Proc], commands: &[Command], value: i64)
         requires can_run { ProcsCanRun procs.now }
         requires ready { IsReady procs.now self.old }
         requires over { self.old.over ≡ None }
         requires settled { IsSettled procs.now self.old }
+        requires commands { commands.now ≡ commands_in procs.now self.old.steps.items }
         ensures ready { IsReady procs.now self.new }
         ensures moves { machine_of procs.now self.new ≡ resumed_with value (machine_of procs.now self.old) }
     {
-        match called_into(commands_in(procs, self.steps.steps()), self.at) {
+        match called_into(commands, self.at) {
             Some(into) => {
                 put(&mut self.slots, into, value);
                 self.at += 1;

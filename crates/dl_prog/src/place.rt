@@ -11,6 +11,7 @@ use dl_term::Sort;
 use sqlite_items::at;
 
 // The commands of a procedure, or none where there is no such procedure.
+#[inline(always)]
 pub(crate) fn body_of(procs: &[Proc], number: usize) -> &[Command]
     ensures { result.now ≡ (proc_at procs.now number).body }
 {
@@ -51,7 +52,9 @@ pub(crate) fn proc_in(steps: &[Step]) -> u8
     }
 }
 
-// The commands that a path leads into.
+// The commands that a path leads into. Most paths are a procedure, or a command of one: these are followed with no call, and
+// only longer ones with a recursion.
+#[inline(always)]
 pub(crate) fn commands_in<'a>(procs: &'a [Proc], steps: &[Step]) -> &'a [Command]
     ensures { result.now ≡ commands_in procs.now steps.now }
 {
@@ -60,11 +63,39 @@ pub(crate) fn commands_in<'a>(procs: &'a [Proc], steps: &[Step]) -> &'a [Command
     };
     match step {
         Step::Enter { proc, .. } => body_of(procs, usize::from(*proc)),
-        Step::Inside { at, first, .. } => commands_at(commands_in(procs, outer), *at, *first),
+        Step::Inside { at, first, .. } => commands_at(outer_commands(procs, outer), *at, *first),
+    }
+}
+
+// The commands around the innermost ones.
+#[inline(always)]
+fn outer_commands<'a>(procs: &'a [Proc], steps: &[Step]) -> &'a [Command]
+    ensures { result.now ≡ commands_in procs.now steps.now }
+{
+    let [step, outer @ ..] = steps else {
+        return &[];
+    };
+    match step {
+        Step::Enter { proc, .. } => body_of(procs, usize::from(*proc)),
+        Step::Inside { at, first, .. } => commands_at(far_commands(procs, outer), *at, *first),
+    }
+}
+
+// The commands that a path of any length leads into.
+fn far_commands<'a>(procs: &'a [Proc], steps: &[Step]) -> &'a [Command]
+    ensures { result.now ≡ commands_in procs.now steps.now }
+{
+    let [step, outer @ ..] = steps else {
+        return &[];
+    };
+    match step {
+        Step::Enter { proc, .. } => body_of(procs, usize::from(*proc)),
+        Step::Inside { at, first, .. } => commands_at(far_commands(procs, outer), *at, *first),
     }
 }
 
 // The command at a position, which is then not the greatest number.
+#[inline(always)]
 pub(crate) fn command_at(commands: &[Command], position: usize) -> Option<&Command>
     ensures value { option_copied result ≡ slice_get commands.now position }
     ensures more { OnSome result (position + 1 < 2 ^ 64) }
@@ -77,6 +108,7 @@ pub(crate) fn command_at(commands: &[Command], position: usize) -> Option<&Comma
 }
 
 // The commands in the command at a position.
+#[inline(always)]
 fn commands_at(commands: &[Command], position: usize, yes: bool) -> &[Command]
     ensures { result.now ≡ inner (slice_get commands.now position) yes }
 {
@@ -87,6 +119,7 @@ fn commands_at(commands: &[Command], position: usize, yes: bool) -> &[Command]
 }
 
 // The commands in a command: of a choice those of one branch.
+#[inline(always)]
 fn inner(command: &Command, first: bool) -> &[Command]
     ensures { result.now ≡ inner (Some command.now) first }
 {

@@ -12,6 +12,7 @@ use dl_model::{Args, Command, Proc, Reply};
 
 impl Cont {
     // Takes the reply to the call of the command at which it is.
+    #[inline(always)]
     pub(crate) fn take_at(&mut self, procs: &[Proc], command: &Command, reply: &Reply)
         requires can_run { ProcsCanRun procs.now }
         requires ready { IsReady procs.now self.old }

@@ -104,21 +104,16 @@ pub(crate) fn put(slots: &mut [Slot; 25], sym: u32, value: i64)
     ensures { slots.new ≡ put_all sym value slots.old }
 {
     for at in 0..PLACES {
-        slots[at] = renewed(slots[at], sym, value);
+        renew(&mut slots[at], sym, value);
     }
 }
 
-// The slot with a new number, where it has the name.
-fn renewed(slot: Slot, sym: u32, value: i64) -> Slot
-    ensures { result ≡ put sym value slot }
+// Gives the slot a new number, where it has the name.
+fn renew(slot: &mut Slot, sym: u32, value: i64)
+    ensures { slot.new ≡ put sym value slot.old }
 {
     if sym == slot.sym {
-        Slot {
-            sym: slot.sym,
-            value,
-        }
-    } else {
-        slot
+        slot.value = value;
     }
 }
 

@@ -59,6 +59,7 @@ impl Stack {
     }
 
     // The path, from the innermost step.
+    #[inline(always)]
     pub(crate) fn steps(&self) -> &[Step]
         ensures { result.now ≡ self.now.items }
     {

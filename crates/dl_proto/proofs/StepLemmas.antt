@@ -89,6 +89,9 @@ not-received inst known label node m t e none =
       spare = known.spare;
     }
 
+pub none-yet : (inst : Instances) (known : Known) (label node : ℕ) (names : Names) → known ≡ known_updates inst known label node names []
+none-yet inst known label node names = λ i. record { state = nothing-made inst known.state label node names [] refl i; spare = known.spare }
+
 -- ---- steps
 
 pub known-sent : (inst : Instances) (before after : Known) (label tag from : ℕ) (to : ℤ) (args : List ℤ) (m : Message) → IsShaped inst before.state → label < length inst.of → after ≡ send_updates inst before label tag from to args

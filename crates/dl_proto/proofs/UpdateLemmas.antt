@@ -230,6 +230,11 @@ pub first-rest : {X : Type 0} (xs : List X) (x : X) → 1 ≤ length xs → x �
 first-rest [] x h e = absurd (omega arith)
 first-rest (y ∷ ys) x h e = λ i. sym e i ∷ sym (take_all (length (y ∷ ys) - 1) ys (omega arith)) i
 
+pub only-one : {X : Type 0} (xs : List X) (x : X) → 1 ≤ length xs → length xs < 2 → x ≡ get_or xs 0 x → xs ≡ x ∷ []
+only-one [] x h k e = absurd (omega arith)
+only-one (y ∷ []) x h k e = λ i. sym e i ∷ []
+only-one (y ∷ z ∷ zs) x h k e = absurd (omega arith)
+
 pub distinct-rest : (us : List Update) (u : Update) (rest : List Update) → us ≡ u ∷ rest → AreDistinct (updated_fields us) → (has (updated_fields rest) u.field ≡ false) × AreDistinct (updated_fields rest)
 distinct-rest us u rest e h = subst (λ vs. AreDistinct (updated_fields vs)) e h
 

@@ -13,6 +13,7 @@ use dl_term::Sort;
 use sqlite_items::at;
 
 // The protocol of a label.
+#[inline(always)]
 pub(crate) fn find_protocol(inst: &Instances, label: u8) -> Option<&Protocol>
     ensures { option_copied result ≡ protocol_found inst.now (slice_get inst.now.of label) }
 {
@@ -23,6 +24,7 @@ pub(crate) fn find_protocol(inst: &Instances, label: u8) -> Option<&Protocol>
 }
 
 // The tag of a label's protocol.
+#[inline(always)]
 pub(crate) fn find_tag(inst: &Instances, label: u8, tag: u8) -> Option<&Tag>
     requires { InstancesAreFormed inst.now }
     ensures found { option_copied result ≡ slice_get (protocol_at inst.now label).tags tag }
@@ -35,6 +37,7 @@ pub(crate) fn find_tag(inst: &Instances, label: u8, tag: u8) -> Option<&Tag>
 }
 
 // The sort of a field of a label's protocol.
+#[inline(always)]
 pub(crate) fn sort_of(inst: &Instances, label: u8, field: u8) -> Sort
     ensures { result ≡ field_sort inst.now label field }
 {
@@ -48,14 +51,26 @@ pub(crate) fn sort_of(inst: &Instances, label: u8, field: u8) -> Sort
 }
 
 // Whether a number is in a sort.
+#[inline(always)]
 pub(crate) fn in_sort(sort: Sort, number: i128) -> bool
     ensures { result ≡ is_in_sort sort number }
 {
     i128::from(sort.low) <= number && number <= i128::from(sort.high)
 }
 
-// Whether there is one number for each parameter, each in its sort.
+// Whether there is one number for each parameter, each in its sort. Most tags have no parameter.
+#[inline(always)]
 pub(crate) fn are_in_sorts(params: &[(u32, Sort)], numbers: &[i64]) -> bool
+    ensures { result ≡ all_in_sorts (arg_sorts params.now) numbers.now }
+{
+    match params {
+        [] => numbers.is_empty(),
+        _ => are_each_in_sorts(params, numbers),
+    }
+}
+
+#[inline(never)]
+fn are_each_in_sorts(params: &[(u32, Sort)], numbers: &[i64]) -> bool
     ensures { result ≡ all_in_sorts (arg_sorts params.now) numbers.now }
 {
     let [(_, sort), params @ ..] = params else {
@@ -64,10 +79,11 @@ pub(crate) fn are_in_sorts(params: &[(u32, Sort)], numbers: &[i64]) -> bool
     let [number, numbers @ ..] = numbers else {
         return false;
     };
-    in_sort(*sort, i128::from(*number)) && are_in_sorts(params, numbers)
+    in_sort(*sort, i128::from(*number)) && are_each_in_sorts(params, numbers)
 }
 
 // Whether a number is a node.
+#[inline(always)]
 pub(crate) fn is_node(nodes: u32, number: i128) -> bool
     ensures { result ≡ is_a_node nodes number }
 {

@@ -48,6 +48,7 @@ pub fn apply_send(
 }
 
 // Makes the updates of a send.
+#[inline(always)]
 fn make_send(
     inst: &Instances,
     state: &mut WorldState,
@@ -101,6 +102,7 @@ pub fn apply_receive(inst: &Instances, state: &mut WorldState, label: u8, id: u3
 }
 
 // Makes the updates of a receive.
+#[inline(always)]
 fn make_receive(inst: &Instances, state: &mut WorldState, label: u8, message: &Message, node: u32)
     requires formed { InstancesAreFormed inst.now }
     requires shaped { IsShaped inst.now state.old.state }
@@ -129,8 +131,32 @@ fn make_receive(inst: &Instances, state: &mut WorldState, label: u8, message: &M
     );
 }
 
-// Makes the updates that fit, where the parameters stand for these numbers.
+// Makes the updates that fit, where the parameters stand for these numbers. Most tags have no parameter.
+#[inline(always)]
 fn make(
+    inst: &Instances,
+    state: &mut WorldState,
+    label: u8,
+    node: u32,
+    transition: &Transition,
+    env: &Env,
+    params: &[(u32, Sort)],
+    numbers: &[i64],
+)
+    requires ready { TransitionIsReady (protocol_at inst.now label) transition.now }
+    requires shaped { IsShaped inst.now state.old.state }
+    requires label { label < length inst.now.of }
+    requires node { node < inst.now.nodes }
+    ensures { state.new ≡ known_updates inst.now state.old label node (with_numbers (names_of env.now) (arg_names params.now) numbers.now) transition.now.updates }
+{
+    match params {
+        [] => make_most(inst, state, label, node, transition.updates.as_slice(), env),
+        _ => make_with(inst, state, label, node, transition, env, params, numbers),
+    }
+}
+
+#[inline(never)]
+fn make_with(
     inst: &Instances,
     state: &mut WorldState,
     label: u8,
@@ -152,7 +178,7 @@ fn make(
     let [number, numbers @ ..] = numbers else {
         return make_updates(inst, state, label, node, transition.updates.as_slice(), env);
     };
-    make(
+    make_with(
         inst,
         state,
         label,
@@ -164,8 +190,55 @@ fn make(
     )
 }
 
+// Makes the updates that fit. Most sends have none, and most receives one.
+#[inline(always)]
+fn make_most(
+    inst: &Instances,
+    state: &mut WorldState,
+    label: u8,
+    node: u32,
+    updates: &[Update],
+    env: &Env,
+)
+    requires ready { All (UpdateIsReady (protocol_at inst.now label)) updates.now }
+    requires once { AreDistinct (updated_fields updates.now) }
+    requires shaped { IsShaped inst.now state.old.state }
+    requires label { label < length inst.now.of }
+    requires node { node < inst.now.nodes }
+    ensures { state.new ≡ known_updates inst.now state.old label node (names_of env.now) updates.now }
+{
+    match updates {
+        [] => (),
+        [update] => make_one(inst, state, label, node, update, env),
+        _ => make_updates(inst, state, label, node, updates, env),
+    }
+}
+
+// Makes an update, where it fits.
+#[inline(always)]
+fn make_one(
+    inst: &Instances,
+    state: &mut WorldState,
+    label: u8,
+    node: u32,
+    update: &Update,
+    env: &Env,
+)
+    requires ready { UpdateIsReady (protocol_at inst.now label) update.now }
+    requires shaped { IsShaped inst.now state.old.state }
+    requires label { label < length inst.now.of }
+    requires node { node < inst.now.nodes }
+    ensures { state.new ≡ known_updates inst.now state.old label node (names_of env.now) (update.now ∷ []) }
+{
+    let Some(write) = write_of(inst, state, label, update, env) else {
+        return;
+    };
+    state.set(label, update.field, node, write.index, write.number);
+}
+
 // Makes the updates that fit. Each is looked at before any is made: the later ones are made first, and since they are of
 // other fields the order doesn't matter.
+#[inline(never)]
 fn make_updates(
     inst: &Instances,
     state: &mut WorldState,

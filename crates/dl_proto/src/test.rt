@@ -47,6 +47,7 @@ pub fn enabled(
     }
 }
 
+#[inline(always)]
 fn can_send(
     inst: &Instances,
     state: &WorldState,
@@ -91,6 +92,7 @@ pub fn receivable(inst: &Instances, state: &WorldState, label: u8, id: u32, node
     }
 }
 
+#[inline(always)]
 fn can_take(inst: &Instances, state: &WorldState, label: u8, message: &Message, node: u32) -> bool
     requires { InstancesAreFormed inst.now }
     ensures { result ≡ receive_passes inst.now state.now.state label (tag_at inst.now label message.now.tag) message.now node }
@@ -157,8 +159,29 @@ fn holds_with(
     )
 }
 
-// Whether the guard holds and each update fits, where the parameters stand for these numbers.
+// Whether the guard holds and each update fits, where the parameters stand for these numbers. Most tags have no
+// parameter.
+#[inline(always)]
 fn can_step(
+    inst: &Instances,
+    state: &WorldState,
+    label: u8,
+    transition: &Transition,
+    env: &Env,
+    params: &[(u32, Sort)],
+    numbers: &[i64],
+) -> bool
+    requires { TransitionIsReady (protocol_at inst.now label) transition.now }
+    ensures { result ≡ passes inst.now label (with_numbers (names_of env.now) (arg_names params.now) numbers.now) state.now.state transition.now }
+{
+    match params {
+        [] => passes_all(inst, state, label, transition, env),
+        _ => can_step_with(inst, state, label, transition, env, params, numbers),
+    }
+}
+
+#[inline(never)]
+fn can_step_with(
     inst: &Instances,
     state: &WorldState,
     label: u8,
@@ -176,7 +199,7 @@ fn can_step(
     let [number, numbers @ ..] = numbers else {
         return passes_all(inst, state, label, transition, env);
     };
-    can_step(
+    can_step_with(
         inst,
         state,
         label,
@@ -188,6 +211,7 @@ fn can_step(
 }
 
 // Whether the guard holds and each update fits.
+#[inline(always)]
 fn passes_all(
     inst: &Instances,
     state: &WorldState,
@@ -198,10 +222,24 @@ fn passes_all(
     requires { TransitionIsReady (protocol_at inst.now label) transition.now }
     ensures { result ≡ passes inst.now label (names_of env.now) state.now.state transition.now }
 {
-    holds(&transition.guard, env, state)
+    guard_holds(&transition.guard, env, state)
         && updates_fit(inst, state, label, transition.updates.as_slice(), env)
 }
 
+// Whether a guard holds. Most transitions have none, which is the guard `true`.
+#[inline(always)]
+#[tactic(auto, unfolding(dl_term::specs::Syntax::opened))]
+fn guard_holds(guard: &Formula, env: &Env, state: &WorldState) -> bool
+    requires { EachIsNarrow guard.now }
+    ensures { result ≡ holds guard.now (names_of env.now) state.now.state }
+{
+    match guard {
+        Formula::True => true,
+        _ => holds(guard, env, state),
+    }
+}
+
+#[inline(always)]
 fn updates_fit(
     inst: &Instances,
     state: &WorldState,

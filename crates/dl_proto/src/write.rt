@@ -2,6 +2,7 @@
 
 ghost use Rattle.std.specs.Prelude.{◌≡◌, true, false, pos, MatchOption};
 ghost use Rattle.dl_term.specs.Names.{names_of};
+ghost use Rattle.dl_term.specs.Meaning.{value};
 ghost use Rattle.dl_term.specs.Measures.{IsNarrow};
 ghost use Rattle.dl_model.specs.Sorts.{in_sort as is_in_sort};
 ghost use Rattle.dl_model.specs.Lookup.{protocol_at};
@@ -23,6 +24,7 @@ pub(crate) struct Write {
 }
 
 // What an update writes: nothing where its index is no node, or its value not in the field's sort.
+#[inline(always)]
 pub(crate) fn write_of(
     inst: &Instances,
     state: &WorldState,
@@ -35,11 +37,12 @@ pub(crate) fn write_of(
 {
     let index = index_at(&update.index, env, state)?;
     let sort = sort_of(inst, label, update.field);
-    let number = number_in(sort, value(&update.value, env, state))?;
+    let number = number_in(sort, value_of(&update.value, env, state))?;
     Some(Write { index, number })
 }
 
 // The index, where it is a node. It is 0 for a field that is no row.
+#[inline(always)]
 fn index_at(index: &Option<Term>, env: &Env, state: &WorldState) -> Option<u32>
     requires { IsIndex IsNarrow index.now }
     ensures { MatchOption result (index_fits index.now (names_of env.now) state.now.state ≡ false) (λ at. (index_fits index.now (names_of env.now) state.now.state ≡ true) × (index_of index.now (names_of env.now) state.now.state ≡ pos at)) }
@@ -55,7 +58,21 @@ fn index_at(index: &Option<Term>, env: &Env, state: &WorldState) -> Option<u32>
     }
 }
 
+// The value of a term. A number that is written as such is read here.
+#[inline(always)]
+#[tactic(auto, unfolding(dl_term::specs::Syntax::opened))]
+fn value_of(term: &Term, env: &Env, state: &WorldState) -> i128
+    requires { IsNarrow term.now }
+    ensures { result ≡ value term.now (names_of env.now) state.now.state }
+{
+    match term {
+        Term::Num(number) => i128::from(*number),
+        _ => value(term, env, state),
+    }
+}
+
 // The number, where it is in the sort.
+#[inline(always)]
 fn number_in(sort: Sort, number: i128) -> Option<i64>
     ensures { MatchOption result (is_in_sort sort number ≡ false) (λ new. (is_in_sort sort number ≡ true) × (number ≡ new)) }
 {

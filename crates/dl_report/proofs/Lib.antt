@@ -8,3 +8,4 @@ pub mod Ready
 pub mod Whole
 pub mod Loops
 pub mod Written
+pub mod Kept

@@ -1,8 +1,8 @@
 -- What the writer appends: words, each with a blank before it, and lines of them.
-use Rattle.std.proofs.Common.{◌≡◌, ℕ, suc, ◌+◌, ◌<◌, ◌≤◌, ℤ, pos, negsuc, Bool, true, false, ◌++◌, List, [], ◌∷◌, map, nat_lt, Result, Ok, Err, refl, sym, ap, ◌∙◌, subst, arith, append-nil, append_assoc, decimal}
+use Rattle.std.proofs.Common.{◌≡◌, ℕ, suc, ◌<◌, ◌≤◌, ℤ, pos, negsuc, true, false, ◌++◌, List, [], ◌∷◌, map, nat_lt, Result, Ok, Err, refl, sym, ap, ◌∙◌, arith, append-nil, append_assoc, decimal}
 use Rattle.std.specs.Prelude.{OnOk, is_ok, if◌then◌else◌}
 use Rattle.std.proofs.lemmas.Bool.Decides.{nat_tests}
-use Rattle.std.specs.List.{concat, join_with_byte}
+use Rattle.std.specs.List.{concat}
 use Rattle.std.specs.Fmt.{signed_decimal}
 use Rattle.dl_model.specs.declared.history.Entry.{Entry}
 use Rattle.dl_model.specs.declared.file.Decls.{Decls}
@@ -42,6 +42,15 @@ one_line new mid last old w ws p q r =
 pub on_push : {T E : Type 0} (r : Result T E) (new old piece : Text) → new ≡ (if is_ok r then old ++ piece else old) → OnOk r (new ≡ old ++ piece)
 on_push (Ok x) new old piece h = h
 on_push (Err e) new old piece h = tt
+
+-- the piece under another name
+pub on_equal : {T E : Type 0} (r : Result T E) (new old a b : Text) → a ≡ b → OnOk r (new ≡ old ++ a) → OnOk r (new ≡ old ++ b)
+on_equal (Ok x) new old a b e h = h ∙ ap (λ t. old ++ t) e
+on_equal (Err x) new old a b e h = tt
+
+pub on_front : {T E : Type 0} (r : Result T E) (new mid old front back : Text) → mid ≡ old ++ front → OnOk r (new ≡ mid ++ back) → OnOk r (new ≡ old ++ (front ++ back))
+on_front (Ok x) new mid old front back p h = h ∙ (ap (λ t. t ++ back) p ∙ append_assoc old front back)
+on_front (Err x) new mid old front back p h = tt
 
 pub on_same : {T E : Type 0} (r : Result T E) (new old : Text) (xs ys : List Text) → xs ≡ ys → OnOk r (new ≡ old ++ spaced xs) → OnOk r (new ≡ old ++ spaced ys)
 on_same (Ok x) new old xs ys e h = h ∙ ap (λ ws. old ++ spaced ws) e
@@ -83,6 +92,9 @@ addressee_number names decls (pos n) not_so = sym (ap (λ b. if b then node_word
 addressee_number names decls (negsuc n) not_so = refl
 
 -- ---- loops
+
+pub byte_on : (before old new : Text) (b : ℕ) (rest more : Text) → rest ≡ b ∷ more → new ≡ old ++ (b ∷ []) → old ++ rest ≡ before → new ++ more ≡ before
+byte_on before old new b rest more e q h = ap (λ t. t ++ more) q ∙ (append_assoc old (b ∷ []) more ∙ (ap (λ r. old ++ r) (sym e) ∙ h))
 
 pub integer_on : (before old new : Text) (v : ℤ) (rest more : List ℤ) → rest ≡ v ∷ more → new ≡ old ++ spaced (signed_decimal v ∷ []) →
     old ++ spaced (map signed_decimal rest) ≡ before → new ++ spaced (map signed_decimal more) ≡ before

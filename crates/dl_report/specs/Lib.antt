@@ -2,6 +2,7 @@ pub mod Spaced
 pub mod Small
 pub mod Split
 pub mod Layout
+pub mod Kept
 pub mod Fitting
 pub mod Wrong
 pub mod Reading

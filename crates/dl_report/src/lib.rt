@@ -6,7 +6,10 @@
 //! a number as a report spells them.
 #![tactic(auto)]
 
+mod append;
 mod call;
+mod front;
+mod lead;
 mod line;
 mod named;
 mod number;

@@ -17,6 +17,7 @@ use dl_tree::Name;
 pub(crate) const FIRST_NAME: usize = 18;
 
 /// The text of a name's number, which is empty for a number that wasn't given out.
+#[inline(always)]
 pub(crate) fn text_at(names: &[Name], sym: usize) -> &str
     ensures { result.now ≡ name_at names.now sym }
 {
@@ -101,6 +102,7 @@ fn place_of_field(names: &[Name], fields: &[FieldDecl], word: &[u8]) -> Option<u
 }
 
 /// The tags of a label's protocol.
+#[inline(always)]
 pub(crate) fn tags_of(inst: &Instances, label: u8) -> &[Tag]
     ensures { result.now ≡ (protocol_at inst.now label).tags }
 {

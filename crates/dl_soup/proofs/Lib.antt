@@ -6,4 +6,5 @@ pub mod RowLemmas
 pub mod OrderLemmas
 pub mod HistoryLemmas
 pub mod ReplyLemmas
+pub mod WaitLemmas
 pub mod ActLemmas

@@ -8,7 +8,7 @@ use Rattle.std.proofs.lemmas.Bool.{cases_eq}
 use Rattle.dl_model.specs.Sorts.{has}
 use Rattle.dl_model.specs.Steps.{change}
 use Rattle.dl_model.proofs.Small.{eqb-other, or-true-left, or-true-right}
-use Rattle.dl_soup.specs.Live.{other_than}
+use Rattle.dl_soup.specs.Live.{is_alone, other_than}
 use Rattle.dl_soup.proofs.Filtered.{filter-both, filter-same, filter-range, range-more}
 
 pub get-before : {X : Type 0} (xs ys : List X) (k : ℕ) → k < length xs → slice_get (xs ++ ys) k ≡ slice_get xs k
@@ -77,6 +77,12 @@ live-changed t f soup n h none =
     ap (λ len. filter p (range_with_len 0 len)) (length-change f soup n)
     ∙ filter-same p (λ id. q id && other_than n id) (range_with_len 0 (length soup)) (λ id. change-passes t f soup n id h none)
     ∙ sym (filter-both (other_than n) q (range_with_len 0 (length soup)))
+
+-- an id that is alone
+pub alone-filter : (id : ℕ) (ids : List ℕ) → is_alone id ids ≡ true → filter (other_than id) ids ≡ []
+alone-filter id [] e = refl
+alone-filter id (only ∷ []) e = λ i. cond (not (e i)) (only ∷ []) []
+alone-filter id (first ∷ second ∷ ids) e = cc
 
 -- ---- what is taken is there
 

@@ -1,5 +1,5 @@
 -- The ids of the live messages of each label.
-use Rattle.std.specs.Prelude.{ℕ, ◌==◌, Bool, false, not, Option, Some, None, List, length, map, slice_get}
+use Rattle.std.specs.Prelude.{ℕ, ◌==◌, Bool, false, not, Option, Some, None, List, [], ◌∷◌, length, map, slice_get}
 use Rattle.std.specs.List.{filter, range_with_len}
 use Rattle.dl_term.specs.State.{State, Statelet, Message}
 
@@ -19,3 +19,8 @@ live_of state = map live_at state.labels
 
 abbrev pub other_than : ℕ → ℕ → Bool
 other_than id other = not (other == id)
+
+-- whether a list has one id, and it is this one
+abbrev pub is_alone : ℕ → List ℕ → Bool
+is_alone id (only ∷ []) = only == id
+is_alone id _ = false

@@ -70,6 +70,23 @@ abbrev pub has_any : List ℕ → Bool
 has_any [] = false
 has_any (id ∷ ids) = true
 
+-- an await is made only where there is a match
+abbrev pub can_call : Seen → ℕ → Call → Bool
+can_call soup node (call.Send label tag to args) = true
+can_call soup node (call.Poll label tag) = true
+can_call soup node (call.Await label tag) = has_any (matches soup.inst soup.state node label tag)
+can_call soup node (call.Read label field index) = true
+
+-- how many more messages there is room for after a reply
+abbrev pub spare_after : ℕ → Reply → ℕ
+spare_after spare (Sent id) = spare - 1
+spare_after spare _ = spare
+
+-- whether there was no message
+abbrev pub missed : Reply → Bool
+missed Miss = true
+missed _ = false
+
 -- ---- the generator of an order
 
 -- the number after one turn

@@ -1,16 +1,17 @@
 //! The reply to a call, and its step.
 
-ghost use Rattle.std.specs.Prelude.{◌≡◌, ◌<◌, ◌≤◌, ◌+◌, pos, length, Some};
+ghost use Rattle.std.specs.Prelude.{◌≡◌, ◌<◌, ◌≤◌, pos, length, Some, false, true};
 ghost use Rattle.dl_term.specs.State.{soup_at, field_at};
 ghost use Rattle.dl_model.specs.declared.history.Reply.TheVariants.{Got};
 ghost use Rattle.dl_model.specs.Formed.{InstancesAreFormed};
+ghost use Rattle.dl_model.specs.Histories.{is_wait_of};
 ghost use Rattle.dl_model.specs.Machine.{listed, packed};
 ghost use Rattle.dl_model.specs.Steps.{after_receive, message_in};
 ghost use Rattle.dl_model.specs.Runs.{index_or_0, step_of, state_after};
 ghost use Rattle.dl_model.specs.Delivery.{matches};
 ghost use Rattle.dl_proto.specs.Shaped.{IsShaped};
 ghost use Rattle.dl_soup.specs.Given.{CallIsGiven};
-ghost use Rattle.dl_soup.specs.Replies.{got_or_miss, reply_by, taken, turned, turn_after, taken_turn, taken_state};
+ghost use Rattle.dl_soup.specs.Replies.{got_or_miss, missed, reply_by, spare_after, taken, turned, turn_after, taken_turn, taken_state};
 
 use crate::pick::{Wanted, pick, turned};
 use crate::pool::Pool;
@@ -19,6 +20,7 @@ use dl_state::{Message, WorldState};
 use dl_term::View;
 
 // Makes a node's call. The generator makes a turn where a message is received.
+#[inline(always)]
 pub(crate) fn answer(
     inst: &Instances,
     pool: &mut Pool,
@@ -33,7 +35,7 @@ pub(crate) fn answer(
     requires room { 0 < pool.old.spare }
     ensures reply { result ≡ reply_by (taken order (turned turn.old)) inst.now pool.old.state node call.now }
     ensures state { pool.new.state ≡ state_after inst.now pool.old.state node (step_of call.now result) }
-    ensures spare { pool.old.spare ≤ pool.new.spare + 1 }
+    ensures spare { spare_after pool.old.spare result ≤ pool.new.spare }
     ensures turn { turn.new ≡ turn_after turn.old result }
 {
     match call {
@@ -67,7 +69,33 @@ pub(crate) fn answer(
     }
 }
 
+// Whether the call waits: it is an await, and there is no message.
+#[inline(always)]
+pub(crate) fn waits(call: &Call, reply: &Reply) -> bool
+    ensures { result ≡ is_wait_of call.now reply.now }
+{
+    match call {
+        Call::Send { .. } => false,
+        Call::Poll { .. } => false,
+        Call::Await { .. } => missed(reply),
+        Call::Read { .. } => false,
+    }
+}
+
+#[inline(always)]
+fn missed(reply: &Reply) -> bool
+    ensures { result ≡ missed reply.now }
+{
+    match reply {
+        Reply::Sent(_) => false,
+        Reply::Got { .. } => false,
+        Reply::Miss => true,
+        Reply::Value(_) => false,
+    }
+}
+
 // Receives the match that the order takes, if there is one.
+#[inline(always)]
 fn receive(
     inst: &Instances,
     pool: &mut Pool,
@@ -91,6 +119,7 @@ fn receive(
 }
 
 // Receives the message with this id.
+#[inline(always)]
 fn take(inst: &Instances, pool: &mut Pool, wanted: &Wanted, id: u32) -> Reply
     requires formed { InstancesAreFormed inst.now }
     requires shaped { IsShaped inst.now pool.old.state }
@@ -105,6 +134,7 @@ fn take(inst: &Instances, pool: &mut Pool, wanted: &Wanted, id: u32) -> Reply
 }
 
 // The reply that tells the message with this id.
+#[inline(always)]
 fn got(state: &WorldState, label: u8, id: u32) -> Reply
     ensures { result ≡ Got id (message_in state.now.state label id).from (packed (message_in state.now.state label id).args) }
 {
@@ -122,6 +152,7 @@ fn got(state: &WorldState, label: u8, id: u32) -> Reply
     }
 }
 
+#[inline(always)]
 fn sender(message: &Message) -> u32
     ensures { result ≡ message.now.from }
 {
@@ -129,10 +160,17 @@ fn sender(message: &Message) -> u32
 }
 
 // At most 8 numbers as the arguments of a call.
+#[inline(always)]
 fn packed(numbers: &[i64]) -> Args
     requires { length numbers.now ≤ 8 }
     ensures { result ≡ packed numbers.now }
 {
+    if numbers.is_empty() {
+        return Args {
+            count: 0,
+            values: [0; 8],
+        };
+    }
     let mut values = [0; 8];
     values[..numbers.len()].copy_from_slice(numbers);
     Args {
@@ -142,6 +180,7 @@ fn packed(numbers: &[i64]) -> Args
 }
 
 // The arguments, as many as their count.
+#[inline(always)]
 fn listed(args: &Args) -> &[i64]
     ensures { result.now ≡ listed args.now }
 {
@@ -154,6 +193,7 @@ fn listed(args: &Args) -> &[i64]
 }
 
 // What a field of the node has. The index is 0 for a field that is no row.
+#[inline(always)]
 fn read(state: &WorldState, node: u32, label: u8, field: u8, index: Option<i64>) -> i64
     ensures { result ≡ field_at state.now.state label field (pos node) (index_or_0 index) }
 {

@@ -1,8 +1,9 @@
 //! The entries of a history.
 
 ghost use Rattle.std.specs.Prelude.{◌≡◌, ◌<◌, ◌-◌, ◌++◌, ◌∷◌, [], IfOk};
+ghost use Rattle.dl_soup.specs.Replies.{entry_of};
 
-use dl_model::Entry;
+use dl_model::{Call, Entry, Reply};
 use std::alloc::{AllocError, Global};
 use std::marker::Model;
 
@@ -32,17 +33,25 @@ impl Entries {
         Ok(Entries { items, spare: room })
     }
 
+    #[inline(always)]
     pub(crate) fn as_slice(&self) -> &[Entry]
         ensures { result.now ≡ self.now.entries }
     {
         self.items.as_slice()
     }
 
-    pub(crate) fn push(&mut self, entry: Entry)
+    // Adds an entry. It is built where it stays.
+    #[inline(always)]
+    pub(crate) fn push(&mut self, node: u32, ticks: u32, call: &Call, reply: &Reply)
         requires { 0 < self.old.spare }
-        ensures { self.new ≡ record { entries = self.old.entries ++ entry ∷ []; spare = self.old.spare - 1 } }
+        ensures { self.new ≡ record { entries = self.old.entries ++ entry_of node ticks call.now reply.now ∷ []; spare = self.old.spare - 1 } }
     {
-        self.items.push_reserved(entry);
+        self.items.push_reserved(Entry {
+            node,
+            ticks,
+            call: *call,
+            reply: *reply,
+        });
         self.spare -= 1;
     }
 }

@@ -2,7 +2,7 @@
 
 ghost use Rattle.std.specs.Prelude.{◌≡◌, ◌<◌, ◌-◌, ◌++◌, ◌∷◌, [], IfOk};
 ghost use Rattle.std.specs.List.{filter};
-ghost use Rattle.dl_soup.specs.Live.{other_than};
+ghost use Rattle.dl_soup.specs.Live.{is_alone, other_than};
 
 use std::alloc::{AllocError, Global};
 use std::marker::Model;
@@ -33,12 +33,14 @@ impl Ids {
         Ok(Ids { items, spare: room })
     }
 
+    #[inline(always)]
     pub(crate) fn as_slice(&self) -> &[u32]
         ensures { result.now ≡ self.now.ids }
     {
         self.items.as_slice()
     }
 
+    #[inline(always)]
     pub(crate) fn push(&mut self, id: u32)
         requires { 0 < self.old.spare }
         ensures { self.new ≡ record { ids = self.old.ids ++ id ∷ []; spare = self.old.spare - 1 } }
@@ -47,11 +49,27 @@ impl Ids {
         self.spare -= 1;
     }
 
-    // Takes out an id, wherever it stands.
+    // Whether this is the one id.
+    #[inline(always)]
+    fn is_alone(&self, id: u32) -> bool
+        ensures { result ≡ is_alone id self.now.ids }
+    {
+        let [only] = self.items.as_slice() else {
+            return false;
+        };
+        *only == id
+    }
+
+    // Takes out an id, wherever it stands. Mostly it is the only one, and then there is no walk.
+    #[inline(always)]
     pub(crate) fn remove(&mut self, id: u32)
         ensures ids { self.new.ids ≡ filter (other_than id) self.old.ids }
         ensures spare { self.new.spare ≡ self.old.spare }
     {
+        if self.is_alone(id) {
+            self.items.clear();
+            return;
+        }
         self.items.retain(|other| *other != id);
     }
 }

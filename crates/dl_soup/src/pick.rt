@@ -22,6 +22,7 @@ pub(crate) struct Wanted {
 }
 
 // The number of the generator after one turn.
+#[inline(always)]
 pub(crate) fn turned(x: u64) -> u64
     ensures { result ≡ turned x }
 {
@@ -30,6 +31,7 @@ pub(crate) fn turned(x: u64) -> u64
 }
 
 // The match that the order takes, where the generator has come to this number.
+#[inline(always)]
 pub(crate) fn pick(
     inst: &Instances,
     pool: &Pool,
@@ -58,6 +60,7 @@ pub(crate) fn has_match(inst: &Instances, pool: &Pool, wanted: &Wanted) -> bool
 }
 
 // Whether the message with this id is a match.
+#[inline(always)]
 fn is_match(inst: &Instances, state: &WorldState, wanted: &Wanted, id: u32) -> bool
     requires { InstancesAreFormed inst.now }
     ensures { result ≡ is_match inst.now state.now.state wanted.now.node wanted.now.label wanted.now.tag id }
@@ -66,12 +69,14 @@ fn is_match(inst: &Instances, state: &WorldState, wanted: &Wanted, id: u32) -> b
     tagged && can_receive(inst, state, wanted, id)
 }
 
+#[inline(always)]
 fn is_tagged(state: &WorldState, wanted: &Wanted, id: u32) -> bool
     ensures { result ≡ ((message_in state.now.state wanted.now.label id).tag == wanted.now.tag) }
 {
     state.tag(wanted.label, id) == wanted.tag
 }
 
+#[inline(always)]
 fn can_receive(inst: &Instances, state: &WorldState, wanted: &Wanted, id: u32) -> bool
     requires { InstancesAreFormed inst.now }
     ensures { result ≡ is_receivable inst.now state.now.state wanted.now.node wanted.now.label (message_in state.now.state wanted.now.label id) }
@@ -102,6 +107,7 @@ fn nth_match(
 }
 
 // Whether this is a match, and the one that is looked for.
+#[inline(always)]
 fn is_wanted(hit: bool, left: usize) -> bool
     ensures { result ≡ (hit && (left == 0)) }
 {
@@ -109,6 +115,7 @@ fn is_wanted(hit: bool, left: usize) -> bool
 }
 
 // How many matches are still to be passed over.
+#[inline(always)]
 fn still_left(hit: bool, left: usize) -> usize
     ensures { result ≡ (if hit then left - 1 else left) }
 {
@@ -142,6 +149,7 @@ fn count_matches(inst: &Instances, state: &WorldState, wanted: &Wanted, ids: &[u
     count
 }
 
+#[inline(always)]
 fn one_if(hit: bool) -> usize
     ensures { result ≡ (if hit then 1 else 0) }
 {

@@ -49,6 +49,7 @@ impl Pool {
         Ok(Pool { state, live })
     }
 
+    #[inline(always)]
     pub(crate) fn state(&self) -> &WorldState
         ensures { result.now ≡ self.now }
     {
@@ -56,6 +57,7 @@ impl Pool {
     }
 
     // The ids of the live messages of a label.
+    #[inline(always)]
     pub(crate) fn live(&self, label: u8) -> &[u32]
         ensures { result.now ≡ live_in (soup_at self.now.state label) }
     {
@@ -66,6 +68,7 @@ impl Pool {
     }
 
     // Makes a node's raw send, and answers the message's id.
+    #[inline(always)]
     pub(crate) fn send(
         &mut self,
         inst: &Instances,
@@ -89,6 +92,7 @@ impl Pool {
     }
 
     // Makes a node's receive of the message with this id.
+    #[inline(always)]
     pub(crate) fn receive(&mut self, inst: &Instances, label: u8, id: u32, node: u32)
         requires formed { InstancesAreFormed inst.now }
         requires shaped { IsShaped inst.now self.old.state }

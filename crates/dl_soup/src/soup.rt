@@ -1,15 +1,15 @@
 //! The soup.
 
-ghost use Rattle.std.specs.Prelude.{◌≡◌, ◌<◌, [], IfOk};
+ghost use Rattle.std.specs.Prelude.{◌≡◌, ◌<◌, [], if◌then◌else◌, IfOk, IfSome, Some, None};
 ghost use Rattle.dl_model.specs.Formed.{InstancesAreFormed};
 ghost use Rattle.dl_model.specs.Delivery.{matches, IsChosen};
 ghost use Rattle.dl_model.specs.Runs.{Replies};
 ghost use Rattle.dl_state.specs.Shapes.{shape_state};
 ghost use Rattle.dl_soup.specs.Given.{ShapeIsGiven, CallIsGiven};
 ghost use Rattle.dl_soup.specs.Kept.{IsKept};
-ghost use Rattle.dl_soup.specs.Replies.{reply_of, acted, has_any, receives_in};
+ghost use Rattle.dl_soup.specs.Replies.{reply_of, acted, can_call, has_any, receives_in};
 
-use crate::answer::answer;
+use crate::answer::{answer, waits};
 use crate::entries::Entries;
 use crate::pick::{Wanted, has_match};
 use crate::pool::Pool;
@@ -23,7 +23,8 @@ use std::marker::Model;
 /// state, the history of the calls that led to it, and how many more calls there is room for.
 ///
 /// Of each soup it holds that its history is a run of the soup under its order, which leads from the first state to the
-/// state: clause `kept` of [`Soup::make`], [`Soup::act`], [`Soup::history`] and [`Soup::state`].
+/// state: clause `kept` of [`Soup::make`], [`Soup::act`], [`Soup::act_ready`], [`Soup::history`] and
+/// [`Soup::state`].
 #[derive(Drop)]
 pub struct Soup {
     inst: Instances,
@@ -115,13 +116,37 @@ impl Soup {
             node,
             call,
         );
-        self.history.push(Entry {
-            node,
-            ticks,
-            call: *call,
-            reply,
-        });
+        self.history.push(node, ticks, call, &reply);
         reply
+    }
+
+    /// Makes a node's call as [`Soup::act`] does, but where it is an await without a match nothing changes, and the answer
+    /// is none. It takes no memory.
+    ///
+    /// The conditions are those of [`Soup::act`].
+    #[inline(always)]
+    pub fn act_ready(&mut self, node: u32, ticks: u32, call: &Call) -> Option<Reply>
+        requires room { 0 < self.old.spare }
+        requires given { CallIsGiven self.old.inst node call.now }
+        ensures reply { result ≡ (if can_call self.old node call.now then Some (reply_of self.old node call.now) else None) }
+        ensures soup { self.new ≡ (if can_call self.old node call.now then acted self.old node ticks call.now else self.old) }
+        ensures replies { IfSome result (λ reply. Replies self.old.inst self.old.state node call.now reply) }
+        ensures chosen { IfSome result (λ reply. IsChosen self.old.order (receives_in self.old.history) self.old.inst self.old.state node call.now reply) }
+        ensures kept { IsKept self.new }
+    {
+        let reply = answer(
+            &self.inst,
+            &mut self.pool,
+            self.order,
+            &mut self.turn,
+            node,
+            call,
+        );
+        if waits(call, &reply) {
+            return None;
+        }
+        self.history.push(node, ticks, call, &reply);
+        Some(reply)
     }
 
     /// Whether there is a message of the tag at the label that the node can receive. It takes no memory.

@@ -16,6 +16,6 @@ pub loop-at-preserved : goal.loop-at-preserved
 loop-at-preserved c =
     let within : c.loop-at.at < length c.args.slots.now = omega arith in
     let inside : c.loop-at.at < length c.loop-at.slots = omega arith in (
-      length-set c.loop-at.slots c.loop-at.at c.renewed.result ∙ c.loop-at.invariant.0,
-      put-more c.args.sym (to_z w64 (of_z w64 c.args.value)) c.args.slots.now c.loop-at.slots c.loop-at.at _ c.renewed.result within inside c.renewed.ensures c.loop-at.invariant.1,
+      length-set c.loop-at.slots c.loop-at.at c.renew.new.slot ∙ c.loop-at.invariant.0,
+      put-more c.args.sym (to_z w64 (of_z w64 c.args.value)) c.args.slots.now c.loop-at.slots c.loop-at.at _ c.renew.new.slot within inside c.renew.ensures c.loop-at.invariant.1,
     )

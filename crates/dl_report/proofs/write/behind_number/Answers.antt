@@ -1,23 +1,21 @@
-use Rattle.std.proofs.Common.{codes, decimal, [], ◌∷◌, ◌++◌, map}
-use Rattle.std.specs.Fmt.{signed_decimal}
-use Rattle.std.specs.String.{string_bytes}
+use Rattle.std.proofs.Common.{codes, decimal, [], ◌∷◌, ◌++◌, ap, append_assoc}
 use Rattle.dl_report.specs.Layout.{node_word, call_words, reply_words}
-use Rattle.dl_report.proofs.Written.{after, on_after}
+use Rattle.dl_report.proofs.Written.{on_after, on_same}
+use Rattle.dl_report.proofs.Kept.{on_both}
 use Rattle.dl_report.proofs.write.behind_number.Goals as goal
 
 pub returns : goal.returns
 returns c =
     let names = c.args.names.now in
     let entry = c.args.entry.now in
-    let old = string_bytes c.args.out.now in
     let node = node_word names entry.node in
     let ticks = decimal entry.ticks in
     let made = call_words names c.args.decls.now entry.call in
     let reply = reply_words names entry.reply in
-    let b1 = string_bytes c.node.new.out in
-    let b2 = string_bytes c.natural.new.out in
-    let b3 = string_bytes c.call.new.out in
-    let b4 = string_bytes c.word.new.out in
-    let b5 = string_bytes c.reply.new.out in
-    on_after c.reply.result b5 b2 old (node ∷ ticks ∷ []) (made ++ (codes "->" ∷ reply)) (after b2 b1 old (node ∷ []) (ticks ∷ []) c.in_ok-node.ensures c.in_ok-natural.ensures)
-    (on_after c.reply.result b5 b3 b2 made (codes "->" ∷ reply) c.in_ok-call.ensures (on_after c.reply.result b5 b4 b3 (codes "->" ∷ []) reply c.in_ok-word.ensures c.reply.ensures))
+    let arrow = codes "->" ∷ [] in
+    let old = c.args.out.now.items in
+    let new = c.reply.new.out.items in
+    let whole = on_after c.reply.result new c.entry_front.new.out.items old (node ∷ ticks ∷ (made ++ arrow)) reply c.in_ok-entry_front.ensures.0 c.reply.ensures in
+    on_both _ _ c.reply.result
+    (on_same c.reply.result new old ((node ∷ ticks ∷ (made ++ arrow)) ++ reply) (node ∷ ticks ∷ (made ++ (codes "->" ∷ reply))) (ap (λ ws. node ∷ ticks ∷ ws) (append_assoc made arrow reply)) whole)
+    c.in_ok-entry_front.ensures.1

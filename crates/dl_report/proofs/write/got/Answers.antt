@@ -1,6 +1,5 @@
-use Rattle.std.proofs.Common.{codes, decimal, [], ◌∷◌, ◌++◌, map}
+use Rattle.std.proofs.Common.{codes, decimal, [], ◌∷◌, map}
 use Rattle.std.specs.Fmt.{signed_decimal}
-use Rattle.std.specs.String.{string_bytes}
 use Rattle.dl_model.specs.Machine.{listed}
 use Rattle.dl_report.specs.Layout.{node_word}
 use Rattle.dl_report.proofs.Written.{after, on_after}
@@ -8,11 +7,11 @@ use Rattle.dl_report.proofs.write.got.Goals as goal
 
 pub returns : goal.returns
 returns c =
-    let old = string_bytes c.args.out.now in
+    let old = c.args.out.now.items in
     let id = decimal c.args.id in
     let from = node_word c.args.names.now c.args.from in
-    let b1 = string_bytes c.natural.new.out in
-    let b2 = string_bytes c.word.new.out in
-    let b3 = string_bytes c.node.new.out in
-    on_after c.arguments.result (string_bytes c.arguments.new.out) b3 old (id ∷ codes "from" ∷ from ∷ []) (map signed_decimal (listed c.args.values.now))
-    (after b3 b2 old (id ∷ codes "from" ∷ []) (from ∷ []) (after b2 b1 old (id ∷ []) (codes "from" ∷ []) c.in_ok-natural.ensures c.in_ok-word.ensures) c.in_ok-node.ensures) c.arguments.ensures
+    let b1 = c.append_word.new.out.items in
+    let b2 = c.text.new.out.items in
+    let b3 = c.node.new.out.items in
+    on_after c.arguments.result c.arguments.new.out.items b3 old (id ∷ codes "from" ∷ from ∷ []) (map signed_decimal (listed c.args.values.now))
+    (after b3 b2 old (id ∷ codes "from" ∷ []) (from ∷ []) (after b2 b1 old (id ∷ []) (codes "from" ∷ []) c.in_ok-append_word.ensures c.in_ok-text.ensures) c.in_ok-node.ensures) c.arguments.ensures

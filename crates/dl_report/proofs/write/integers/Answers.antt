@@ -1,6 +1,5 @@
-use Rattle.std.proofs.Common.{◌≡◌, [], ◌∷◌, ◌++◌, map, ap, sym, ◌∙◌, append-nil, refl}
+use Rattle.std.proofs.Common.{◌≡◌, [], ◌++◌, map, ap, sym, ◌∙◌, append-nil, refl}
 use Rattle.std.specs.Fmt.{signed_decimal}
-use Rattle.std.specs.String.{string_bytes}
 use Rattle.dl_report.specs.Spaced.{spaced}
 use Rattle.dl_report.proofs.Pieces.{nothing}
 use Rattle.dl_report.proofs.Written.{integer_on}
@@ -11,10 +10,10 @@ loop-value-init c = refl
 
 pub loop-value-preserved : goal.loop-value-preserved
 loop-value-preserved c =
-    integer_on (string_bytes c.args.out.now ++ spaced (map signed_decimal c.args.values.now)) (string_bytes c.loop-value.out) (string_bytes c.integer.new.out) c.in-Some.value.now c.loop-value.rest.now c.in-Some.more.now
+    integer_on (c.args.out.now.items ++ spaced (map signed_decimal c.args.values.now)) c.loop-value.out.items c.integer.new.out.items c.in-Some.value.now c.loop-value.rest.now c.in-Some.more.now
     c.in-Some.ensures.cases.0 c.in_ok-integer.ensures c.loop-value.invariant
 
 pub returns : goal.returns
 returns c =
     let none : c.loop-value.rest.now ≡ [] = nothing c.loop-value.rest.now c.in_default.ensures.cases in
-    sym (append-nil (string_bytes c.loop-value.out)) ∙ (ap (λ vs. string_bytes c.loop-value.out ++ spaced (map signed_decimal vs)) (sym none) ∙ c.loop-value.invariant)
+    sym (append-nil c.loop-value.out.items) ∙ (ap (λ vs. c.loop-value.out.items ++ spaced (map signed_decimal vs)) (sym none) ∙ c.loop-value.invariant)

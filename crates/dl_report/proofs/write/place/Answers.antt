@@ -1,9 +1,8 @@
 use Rattle.std.proofs.Common.{sym, append-nil}
-use Rattle.std.specs.String.{string_bytes}
 use Rattle.dl_report.proofs.write.place.Goals as goal
 
 pub returns-in-Some : goal.returns-in-Some
 returns-in-Some c = rw c.in-Some.is c.integer.ensures
 
 pub returns-in-None : goal.returns-in-None
-returns-in-None c = rw c.in-None.is (sym (append-nil (string_bytes c.args.out.now)))
+returns-in-None c = rw c.in-None.is (sym (append-nil c.args.out.now.items))

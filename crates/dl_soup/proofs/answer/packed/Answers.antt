@@ -1,4 +1,4 @@
-use Rattle.std.proofs.Common.{◌≡◌, ℤ, pos, List, ◌++◌, length, drop}
+use Rattle.std.proofs.Common.{◌≡◌, ℤ, pos, List, [], ◌∷◌, ◌++◌, length, drop, refl, arith, rules}
 use Rattle.std.specs.Prelude.{replicate}
 use Rattle.std.proofs.lemmas.List.{drop-replicate}
 use Rattle.dl_model.specs.declared.history.Args.{Args}
@@ -10,3 +10,10 @@ same made xs e = λ i. record { count = length xs; values = e i ++ drop-replicat
 
 pub returns : goal.returns
 returns c = same c.copy_from_slice.new.self c.args.numbers.now c.copy_from_slice.ensures.after
+
+none : (xs : List ℤ) → length xs ≡ 0 → ◌≡◌ {A = Args} (record { count = 0; values = replicate 8 (pos 0) }) (packed xs)
+none [] e = refl
+none (x ∷ xs) e = absurd (omega arith)
+
+pub returns-then-is_empty : goal.returns-then-is_empty
+returns-then-is_empty c = none c.args.numbers.now (search rules)

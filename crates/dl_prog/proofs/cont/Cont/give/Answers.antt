@@ -20,15 +20,15 @@ go_back-requires c =
     let caller : caller_of old.steps.items ≡ Some c.in-Some.back = sym (c.caller_of.ensures ∙ ap caller_of c.steps.ensures) ∙ c.in-Some.is in
     caller-longer old.steps.items c.in-Some.back caller
 
-pub settle-requires : goal.settle-requires
-settle-requires c =
+pub settle-commands-requires : goal.settle-commands-requires
+settle-commands-requires c =
     let procs = c.args.procs.now in
     let old = c.args.self.now in
     let caller : caller_of old.steps.items ≡ Some c.in-Some.back = sym (c.caller_of.ensures ∙ ap caller_of c.steps.ensures) ∙ c.in-Some.is in
     record { ready = subst (λ (x : Cont). IsReady procs x) (sym c.go_back.ensures) (back-ready procs old c.in-Some.back c.requires.ready caller) }
 
 pub finish_call-requires-clause-over : goal.finish_call-requires-clause-over
-finish_call-requires-clause-over c = c.settle.ensures.over ∙ (ap (λ (x : Cont). x.over) c.go_back.ensures ∙ c.requires.over)
+finish_call-requires-clause-over c = c.settle-commands.ensures.over ∙ (ap (λ (x : Cont). x.over) c.go_back.ensures ∙ c.requires.over)
 
 pub returns-in-Some-clause-moves : goal.returns-in-Some-clause-moves
 returns-in-Some-clause-moves c =
@@ -36,8 +36,8 @@ returns-in-Some-clause-moves c =
     let old = c.args.self.now in
     let same : to_z w64 (of_z w64 c.args.value) ≡ c.args.value = search rules in
     let caller : caller_of old.steps.items ≡ Some c.in-Some.back = sym (c.caller_of.ensures ∙ ap caller_of c.steps.ensures) ∙ c.in-Some.is in
-    given procs old c.settle.new.self (machine_of procs c.finish_call.new.self) c.in-Some.back (to_z w64 (of_z w64 c.args.value)) c.requires.over caller
-    (c.settle.ensures.over ∙ ap (λ (x : Cont). x.over) c.go_back.ensures)
-    (c.settle.ensures.same ∙ ap (λ (x : Cont). machine_in procs x.steps.items x.at x.slots) c.go_back.ensures)
+    given procs old c.settle-commands.new.self (machine_of procs c.finish_call.new.self) c.in-Some.back (to_z w64 (of_z w64 c.args.value)) c.requires.over caller
+    (c.settle-commands.ensures.over ∙ ap (λ (x : Cont). x.over) c.go_back.ensures)
+    (c.settle-commands.ensures.same ∙ ap (λ (x : Cont). machine_in procs x.steps.items x.at x.slots) c.go_back.ensures)
     c.finish_call.ensures.moves
     ∙ ap (returned (callers_in procs old.steps.items)) same

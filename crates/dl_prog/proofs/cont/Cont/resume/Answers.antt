@@ -8,5 +8,5 @@ pub returns-in-None-clause-moves : goal.returns-in-None-clause-moves
 returns-in-None-clause-moves c =
     let procs = c.args.procs.now in
     let old : Cont = c.args.self.now in
-    let kept : Cont = c.settle.new.self in
-    c.take.ensures.moves ∙ ap (λ (machine : Machine). after_reply machine c.args.reply.now) (same-machine procs old kept c.settle.ensures.over c.settle.ensures.same)
+    let kept : Cont = c.settle-commands.new.self in
+    c.take.ensures.moves ∙ ap (λ (machine : Machine). after_reply machine c.args.reply.now) (same-machine procs old kept c.settle-commands.ensures.over c.settle-commands.ensures.same)

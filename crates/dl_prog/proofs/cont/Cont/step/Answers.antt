@@ -11,5 +11,5 @@ leave-requires-clause-past c =
     let procs = c.args.procs.now in
     let old = c.args.self.now in
     let gone : slice_get (commands_in procs old.steps.items) old.at ≡ None =
-    sym (c.command_at.ensures.value ∙ ap (λ (cs : List Command). slice_get cs old.at) (c.commands_in.ensures ∙ ap (commands_in procs) c.steps.ensures)) ∙ ap option_copied c.in-None.is in
+    sym (c.command_at.ensures.value ∙ ap (λ (cs : List Command). slice_get cs old.at) c.requires.commands) ∙ ap option_copied c.in-None.is in
     none-past (commands_in procs old.steps.items) old.at gone

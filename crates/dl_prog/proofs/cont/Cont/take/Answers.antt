@@ -11,5 +11,5 @@ returns-in-None-clause-moves c =
     let procs = c.args.procs.now in
     let old = c.args.self.now in
     let gone : slice_get (commands_in procs old.steps.items) old.at ≡ None =
-    sym (c.command_at.ensures.value ∙ ap (λ (cs : List Command). slice_get cs old.at) (c.commands_in.ensures ∙ ap (commands_in procs) c.steps.ensures)) ∙ ap option_copied c.in-None.is in
+    sym (c.command_at.ensures.value ∙ ap (λ (cs : List Command). slice_get cs old.at) c.requires.commands) ∙ ap option_copied c.in-None.is in
     (none-taken procs old c.args.reply.now c.requires.ready c.requires.over c.requires.settled gone).moves

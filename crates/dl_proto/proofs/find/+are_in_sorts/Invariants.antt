@@ -1,5 +1,0 @@
-use Rattle.std.proofs.Common.{length}
-use Rattle.dl_proto.proofs.find.+are_in_sorts.Given as goal
-
-abbrev pub decreases-are_in_sorts : goal.decreases-are_in_sorts
-decreases-are_in_sorts l = length l.params.now
